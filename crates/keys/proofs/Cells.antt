@@ -8,7 +8,7 @@ use borrow.Author.Tests.{lt-ltb, eq-eqb, ne-eqb, eqb-true, eqb-false}
 use Rattle.keys.specs.declared.values.Word.{Word}
 use Rattle.keys.specs.declared.values.Cell.{Cell}
 use Rattle.keys.specs.Bits.{digit, binary}
-use Rattle.keys.specs.Kinds.{bits-of, interleaved, word-bit, cell-bit}
+use Rattle.keys.specs.Kinds.{every-second-bit, bits-of, interleaved, word-bit, cell-bit}
 use Rattle.keys.proofs.Binary.{binary-ext, binary-digits, digit-binary}
 use Rattle.keys.proofs.Same.{word-same, cell-same}
 
@@ -55,8 +55,9 @@ cells-same a b h =
 
 -- the row and the column that are gathered from the bits of n, woven again
 pub gathered : (n row column : ℕ) → n < 2 ^ 32
-    → row ≡ binary 16 (λ i. digit n (31 - 2 * i)) → column ≡ binary 16 (λ i. digit n (30 - 2 * i))
+    → row ≡ every-second-bit n 31 → column ≡ every-second-bit n 30
     → binary 32 (interleaved row column) ≡ n
+unfolding every-second-bit
 gathered n row column small r k = binary-ext 32 (interleaved row column) (λ p. digit n (32 - suc p)) bits ∙ binary-digits 32 n small where
   bits : (p : ℕ) → p < 32 → interleaved row column p ≡ digit n (32 - suc p)
   bits p h = go (eqb (p % 2) 0) refl where

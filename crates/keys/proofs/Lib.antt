@@ -4,3 +4,4 @@ pub mod Cells
 pub mod Splits
 pub mod Differences
 pub mod Order
+pub mod Laws

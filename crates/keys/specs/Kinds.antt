@@ -1,10 +1,10 @@
 -- Our own key kinds: the bit at each place of a word and of a chart cell.
 use mathlib.Core.Bool.{Bool, false, cond}
-use Prim.Native.Nat.{ℕ, _-_, _/_, _%_}
+use Prim.Native.Nat.{ℕ, _-_, _*_, _/_, _%_}
 use lib.Dec.{ltb, eqb}
 use Rattle.keys.specs.declared.values.Word.{Word}
 use Rattle.keys.specs.declared.values.Cell.{Cell}
-use Rattle.keys.specs.Bits.{digit}
+use Rattle.keys.specs.Bits.{digit, binary}
 
 -- the bits of n in w places, the highest first
 abbrev pub bits-of : ℕ → ℕ → ℕ → Bool
@@ -13,6 +13,10 @@ bits-of w n p = cond (ltb p w) (digit n (w - 1 - p)) false
 -- 16 bits of a row and 16 of a column in turn, the row's first, the highest first
 abbrev pub interleaved : ℕ → ℕ → ℕ → Bool
 interleaved row column p = cond (ltb p 32) (cond (eqb (p % 2) 0) (digit row (15 - p / 2)) (digit column (15 - p / 2))) false
+
+-- the number that every second bit of n writes, sixteen of them, from bit `top` down
+unfoldable pub every-second-bit : ℕ → ℕ → ℕ
+every-second-bit n top = binary 16 (λ i. digit n (top - 2 * i))
 
 -- a word's bits are those of its light number
 abbrev pub word-bit : Word → ℕ → Bool

@@ -19,6 +19,11 @@ module _ {K : Type 0} (κ : KeyModel K) where
   abbrev pub Precedes : K → K → Type 0
   Precedes a b = number a < number b
 
+  -- x and y are the numbers of a and b
+  pub record Numbers (a b : K) (x y : ℕ) : Type 0 where
+    pub first : x ≡ number a
+    pub second : y ≡ number b
+
   -- p is the first place in which a and b differ
   pub record FirstDifference (a b : K) (p : ℕ) : Type 0 where
     pub within : p < κ .places
@@ -32,3 +37,9 @@ module _ {K : Type 0} (κ : KeyModel K) where
   -- the order by numbers is the order by the first differing bit
   abbrev pub Ordered-by-first-difference : K → K → Type 0
   Ordered-by-first-difference a b = (Precedes a b → Left-of a b) × (Left-of a b → Precedes a b)
+
+-- what every key kind owes, in the form that proofs on trees use
+pub record KeyLaws {K : Type 0} (κ : KeyModel K) : Type 0 where
+  pub few : κ .places ≤ 64
+  pub same-bits : (a b : K) → ((p : ℕ) → p < κ .places → κ .bit a p ≡ κ .bit b p) → a ≡ b
+  pub same-number : (a b : K) → number κ a ≡ number κ b → a ≡ b

@@ -1,7 +1,8 @@
 ghost use mathlib.Core.Path.{_≡_};
-ghost use Prim.Native.Nat.{ℕ, _-_, _*_, _≤_};
-ghost use Rattle.keys.specs.Bits.{digit, binary};
-ghost use Rattle.keys.specs.Kinds.{cell-bit};
+ghost use mathlib.Core.Bool.{Bool};
+ghost use Prim.Native.Nat.{ℕ, _^_, _<_, _≤_};
+ghost use Rattle.keys.specs.Bits.{binary};
+ghost use Rattle.keys.specs.Kinds.{every-second-bit, interleaved, cell-bit};
 use crate::kind::KeyKind;
 use crate::values::Cell;
 
@@ -16,7 +17,7 @@ const COLUMN_TOP: u32 = 30;
 // The number that every second bit of `n` writes, sixteen of them, from bit `top` down.
 fn gather(n: u32, top: u32) -> u16
     requires from_the_top { ⌜ 30 ≤ top ⌝ ∗ ⌜ top ≤ 31 ⌝ }
-    ensures every_second_bit { λ r. ⌜ r ≡ binary 16 (λ i. digit n (top - 2 * i)) ⌝ }
+    ensures is_every_second_bit { λ r. ⌜ r ≡ every-second-bit n top ⌝ }
 {
     let mut r: u16 = 0;
     for i in 0..16 {
@@ -24,6 +25,12 @@ fn gather(n: u32, top: u32) -> u16
     }
     r
 }
+
+// A row and a column that were gathered from the bits of a number write that number again: a fact, no code.
+fn gathered_bits_write_the_number()
+    ensures back_again { λ _. ⌜ ((n row column : ℕ) → n < 2 ^ 32 → row ≡ every-second-bit n 31 → column ≡ every-second-bit n 30 → binary 32 (interleaved row column) ≡ n) ⌝ }
+    ensures none_above { λ _. ⌜ ((f : ℕ → Bool) → binary 32 f < 2 ^ 32) ⌝ }
+{}
 
 /// Chart cells: code 2, 32 places, bits of row and column in turn, so that neighbours share prefixes.
 pub impl KeyKind for Cell as CellKind {
@@ -58,6 +65,7 @@ pub impl KeyKind for Cell as CellKind {
     }
 
     fn from_number(n: u64) -> Option<Cell> {
+        gathered_bits_write_the_number();
         if n >= CELL_NUMBERS {
             return None;
         }

@@ -9,6 +9,8 @@ mod word;
 pub use cell::CellKind;
 pub use compare::comes_before;
 pub use compare::first_difference;
+pub use compare::first_difference_decides_order;
+pub use compare::numbers_tell_keys_apart;
 pub use compare::same_key;
 pub use kind::KeyKind;
 pub use values::Cell;

@@ -1,6 +1,7 @@
 use mathlib.Core.Path.{_≡_, sym, ap, _∙_}
 use Prim.Native.Nat.{ℕ, _-_, _*_}
 use native.Mathlib.Omega.{arith}
+use Rattle.keys.specs.Kinds.{every-second-bit}
 use Rattle.keys.specs.Bits.{digit, binary}
 use Rattle.keys.proofs.Binary.{binary-none, binary-next, binary-room, digit-weight}
 use Rattle.keys.proofs.cell.gather.Needs as need
@@ -20,6 +21,7 @@ loop-i-again c =
     (sym (digit-weight (c .args .n) (c .args .top - 2 * c .loop-i .i)))
 
 pub returns : need.returns
+unfolding every-second-bit
 returns c =
     let done : c .loop-i .i ≡ 16 = omega arith in
-    record { every-second-bit = c .loop-i .inv ∙ ap (λ (k : ℕ). binary k (λ i. digit (c .args .n) (c .args .top - 2 * i))) done }
+    record { is-every-second-bit = c .loop-i .inv ∙ ap (λ (k : ℕ). binary k (λ i. digit (c .args .n) (c .args .top - 2 * i))) done }
