@@ -8,8 +8,8 @@ use mir.Val.{boolByte}
 use native.Mathlib.Omega.{arith}
 use lib.Dec.{ltb, eqb}
 use lib.Pow.{shr-shr, pow-mono}
-use borrow.Author.Tests.{ltb-true, ltb-false, eq-eqb, ne-eqb}
-use Rattle.keys.specs.Bits.{digit, binary}
+use borrow.Author.Tests.{ltb-true, ltb-false, lt-ltb, eq-eqb, ne-eqb}
+use Rattle.keys.specs.Bits.{digit, bits-of, binary}
 
 -- the weight of a bit, and of a digit
 pub weight-le : (b : Bool) → cond b 1 0 ≤ 1
@@ -99,3 +99,13 @@ byte-weight false = refl
 pub byte-le : (b : Bool) → boolByte b ≤ 1
 byte-le true = omega arith
 byte-le false = omega arith
+
+-- the bits of a number in a width that holds it write that number again
+pub inside : (w p : ℕ) (b : Bool) → p < w → cond (ltb p w) b false ≡ b
+inside w p b h = ap (λ (t : Bool). cond t b false) (lt-ltb p w h)
+
+pub binary-bits-of : (w n : ℕ) → n < 2 ^ w → binary w (bits-of w n) ≡ n
+binary-bits-of w n small =
+    binary-ext w (bits-of w n) (λ p. digit n (w - suc p))
+    (λ p h. let e : w - 1 - p ≡ w - suc p = omega arith in inside w p (digit n (w - 1 - p)) h ∙ ap (digit n) e)
+    ∙ binary-digits w n small

@@ -8,23 +8,13 @@ use borrow.Author.Tests.{lt-ltb, eq-eqb, ne-eqb, eqb-true, eqb-false}
 use Rattle.keys.specs.declared.values.Word.{Word}
 use Rattle.keys.specs.declared.values.Cell.{Cell}
 use Rattle.keys.specs.Bits.{digit, binary}
-use Rattle.keys.specs.Kinds.{every-second-bit, bits-of, interleaved, word-bit, cell-bit}
-use Rattle.keys.proofs.Binary.{binary-ext, binary-digits, digit-binary}
+use Rattle.keys.specs.Kinds.{every-second-bit, interleaved, word-bit, cell-bit}
+use Rattle.keys.proofs.Binary.{inside, binary-ext, binary-digits, binary-bits-of, digit-binary}
 use Rattle.keys.proofs.Same.{word-same, cell-same}
-
--- within the places
-inside : (w p : ℕ) (b : Bool) → p < w → cond (ltb p w) b false ≡ b
-inside w p b h = ap (λ (t : Bool). cond t b false) (lt-ltb p w h)
-
-pub number-of : (w n : ℕ) → n < 2 ^ w → binary w (bits-of w n) ≡ n
-number-of w n small =
-    binary-ext w (bits-of w n) (λ p. digit n (w - suc p))
-    (λ p h. let e : w - 1 - p ≡ w - suc p = omega arith in inside w p (digit n (w - 1 - p)) h ∙ ap (digit n) e)
-    ∙ binary-digits w n small
 
 pub words-same : (a b : Word) → ((p : ℕ) → p < 32 → word-bit a p ≡ word-bit b p) → a ≡ b
 words-same a b h =
-    word-same a b (sym (number-of 32 (a .light) (a .fits)) ∙ binary-ext 32 (word-bit a) (word-bit b) h ∙ number-of 32 (b .light) (b .fits))
+    word-same a b (sym (binary-bits-of 32 (a .light) (a .fits)) ∙ binary-ext 32 (word-bit a) (word-bit b) h ∙ binary-bits-of 32 (b .light) (b .fits))
 
 -- the two halves of woven bits
 module _ (m n : ℕ) where

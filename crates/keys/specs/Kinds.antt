@@ -4,11 +4,7 @@ use Prim.Native.Nat.{ℕ, _-_, _*_, _/_, _%_}
 use lib.Dec.{ltb, eqb}
 use Rattle.keys.specs.declared.values.Word.{Word}
 use Rattle.keys.specs.declared.values.Cell.{Cell}
-use Rattle.keys.specs.Bits.{digit, binary}
-
--- the bits of n in w places, the highest first
-abbrev pub bits-of : ℕ → ℕ → ℕ → Bool
-bits-of w n p = cond (ltb p w) (digit n (w - 1 - p)) false
+use Rattle.keys.specs.Bits.{digit, bits-of, binary}
 
 -- 16 bits of a row and 16 of a column in turn, the row's first, the highest first
 abbrev pub interleaved : ℕ → ℕ → ℕ → Bool

@@ -23,7 +23,7 @@ pub trait KeyKind: Copy {
     ghost bit: { Self → ℕ → Bool };
 
     // a code has 16 bits
-    law code_fits: { code < 65536 };
+    law coded: { code < 65536 };
     // a kind has 1 to 64 places
     law places_bounded: { (1 ≤ places) × (places ≤ 64) };
     // past the last place every bit is 0

@@ -2,6 +2,7 @@
 
 mod cell;
 mod compare;
+mod facts;
 mod kind;
 mod values;
 mod word;
@@ -12,6 +13,7 @@ pub use compare::first_difference;
 pub use compare::first_difference_decides_order;
 pub use compare::numbers_tell_keys_apart;
 pub use compare::same_key;
+pub use facts::bits_write_their_number;
 pub use kind::KeyKind;
 pub use values::Cell;
 pub use values::Word;

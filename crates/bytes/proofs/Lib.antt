@@ -1,0 +1,4 @@
+pub mod BigEndian
+pub mod ClosedForms
+pub mod Listing
+pub mod Octets
