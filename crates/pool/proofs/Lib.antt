@@ -1,0 +1,10 @@
+pub mod Reading
+pub mod Counts
+pub mod Sums
+pub mod Told
+pub mod After
+pub mod Settling
+pub mod Updates
+pub mod Fitting
+pub mod Nexts
+pub mod Opened

@@ -1,0 +1,9 @@
+pub mod Slice
+pub mod Nodes
+pub mod GoodOrder
+pub mod Machine
+pub mod Holds
+pub mod Promises
+pub mod Walks
+pub mod Books
+pub mod Opening

@@ -1,0 +1,15 @@
+pub mod AllKeys
+pub mod Move
+pub mod Order
+pub mod Lookup
+pub mod Sizes
+pub mod Rising
+pub mod Distinct
+pub mod Parting
+pub mod Insert
+pub mod Glue
+pub mod Remove
+pub mod Next
+pub mod Unique
+pub mod Sift
+pub mod Union
