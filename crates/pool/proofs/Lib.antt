@@ -1,4 +1,6 @@
 pub mod Reading
+pub mod Standing
+pub mod Stacked
 pub mod Counts
 pub mod Sums
 pub mod Told

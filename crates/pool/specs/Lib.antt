@@ -7,3 +7,4 @@ pub mod Promises
 pub mod Walks
 pub mod Books
 pub mod Opening
+pub mod Stacks

@@ -13,6 +13,7 @@ ghost use Rattle.pool.specs.declared.node.Node.the-variants.{Free};
 use crate::account::Account;
 use crate::node::Node;
 use crate::outoforder::OutOfOrder;
+pub use crate::stack::Stack;
 
 /// The node at an index.
 pub fn node_at<K: Copy, V: Copy>(nodes: &[Node<K, V>], at: u16) -> Result<Node<K, V>, OutOfOrder>

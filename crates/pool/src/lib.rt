@@ -11,6 +11,7 @@ mod outoforder;
 mod refusal;
 mod rows;
 mod shelf;
+mod stack;
 
 pub use account::Account;
 pub use book::Book;
