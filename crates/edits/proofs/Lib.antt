@@ -1,2 +1,10 @@
-pub mod Writing
+pub mod Releasing
 pub mod Pending
+pub mod Standing
+pub mod Writing
+pub mod Seeking
+pub mod Descending
+pub mod Growing
+pub mod Updating
+pub mod Shrinking
+pub mod Dropping

@@ -22,7 +22,7 @@ use Rattle.pool.specs.Walks.{Rooted, Beside, Left}
 use Rattle.pool.proofs.Reading.{one-node, written-there, kept-elsewhere}
 use Rattle.pool.proofs.Standing.{root-within, none-at-free}
 use Rattle.edits.specs.Clears.{sides, Stuck}
-use Rattle.edits.proofs.Writing.{stands-kept, chain-kept}
+use Rattle.edits.proofs.Releasing.{stands-kept, chain-kept}
 
 module _ {K V : Type 0} where
   abbrev pub uses-all : ℕ → List (Tree K V) → ℕ

@@ -3,16 +3,20 @@ use mathlib.Core.Path.{_≡_, refl, sym, _∙_, ap, subst}
 use mathlib.Core.List.{List, [], _∷_}
 use Prim.Native.Nat.{ℕ, _+_, _<_, _≤_}
 use native.Mathlib.Omega.{arith}
-use lib.ListN.{length, getD, set, length-set}
+use lib.ListN.{length, set, length-set}
 use lib.Seq.{getD-set-same, getD-set-other}
+use Rattle.std.specs.declared.option.Option.the-variants.{Some}
 use Rattle.trees.specs.Tree.{Tree, leaf, branch, one, times, root, uses, move}
 use Rattle.trees.proofs.Move.{one-same}
 use Rattle.pool.specs.declared.node.Node.{Node}
-use Rattle.pool.specs.declared.node.Node.the-variants.{Free, Leaf, Branch}
+use Rattle.pool.specs.declared.node.Node.the-variants.{Leaf}
 use Rattle.pool.specs.declared.account.Account.{Account}
 use Rattle.pool.specs.Slice.{At, Stands, Chain}
 use Rattle.pool.specs.Nodes.{Took}
 use Rattle.pool.proofs.Reading.{one-node}
+
+pub some-inj : {A : Type 0} (a b : A) → Some a ≡ Some b → a ≡ b
+some-inj a b e = cc
 
 -- what is counted somewhere is not where nothing is counted
 pub apart : (f : ℕ → ℕ) (i j : ℕ) → f i ≡ 0 → 1 ≤ f j → j ≡ i → ⊥

@@ -11,7 +11,8 @@ use borrow.Author.Tests.{eq-eqb, ne-eqb, eqb-true, eqb-false}
 use Rattle.keys.specs.Model.{KeyModel, KeyLaws, number}
 use Rattle.trees.specs.Find.{lookup}
 use Rattle.trees.proofs.Distinct.{Distinct}
-use Rattle.pool.specs.Machine.{both, says, record-at, listed, count-of, dropped}
+use Rattle.trees.specs.Union.{both}
+use Rattle.pool.specs.Machine.{says, record-at, listed, count-of, dropped}
 use Rattle.std.specs.declared.option.Option.{Option}
 use Rattle.std.specs.declared.option.Option.the-variants.{Some, None}
 

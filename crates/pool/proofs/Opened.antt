@@ -22,7 +22,8 @@ use Rattle.pool.specs.declared.node.Node.the-variants.{Free}
 use Rattle.pool.specs.declared.book.Book.{Book}
 use Rattle.pool.specs.Slice.{At, Chain}
 use Rattle.pool.specs.GoodOrder.{States, Arranged, GoodOrder, total, empty-row}
-use Rattle.pool.specs.Machine.{Machine, opened, both, says, record-at, list-of}
+use Rattle.trees.specs.Union.{both}
+use Rattle.pool.specs.Machine.{Machine, opened, says, record-at, list-of}
 use Rattle.pool.specs.Holds.{Holds}
 use Rattle.pool.proofs.Sums.{one-same, one-other}
 use Rattle.pool.proofs.Told.{map-distinct}

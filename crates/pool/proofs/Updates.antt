@@ -9,8 +9,9 @@ use Rattle.std.specs.declared.option.Option.{Option}
 use Rattle.std.specs.declared.option.Option.the-variants.{Some, None}
 use Rattle.keys.specs.Model.{KeyModel, KeyLaws, number}
 use Rattle.trees.specs.Find.{same-key}
-use Rattle.pool.specs.Machine.{both, says, record-at, dropped}
-use Rattle.pool.specs.Walks.{added}
+use Rattle.trees.specs.Union.{both}
+use Rattle.pool.specs.Machine.{says, record-at, dropped}
+use Rattle.trees.specs.Insert.{added}
 
 none-either : {A : Type 0} (b : Bool) → _≡_ {A = Option A} (cond b None None) None
 none-either true = refl

@@ -11,6 +11,7 @@ use Rattle.std.specs.declared.option.Option.{Option}
 use Rattle.std.specs.declared.option.Option.the-variants.{Some, None}
 use Rattle.keys.specs.Model.{KeyModel, number}
 use Rattle.trees.specs.Find.{same-key, after}
+use Rattle.trees.specs.Union.{both}
 
 pub record Machine (K V : Type 0) : Type 0 where
   pub capacity : ℕ
@@ -19,12 +20,6 @@ pub record Machine (K V : Type 0) : Type 0 where
 -- after opening a pool of so many nodes no shelf has heard anything
 abbrev pub opened : {K V : Type 0} → ℕ → Machine K V
 opened n = record { capacity = n; heard = replicate 8 [] }
-
--- the join of two records of which each may be absent
-abbrev pub both : {V : Type 0} → (V → V → V) → Option V → Option V → Option V
-both join None o = o
-both join (Some a) None = Some a
-both join (Some a) (Some b) = Some (join a b)
 
 -- the lesser of two keys of which each may be absent
 abbrev pub lesser : {K : Type 0} → KeyModel K → Option K → Option K → Option K

@@ -13,11 +13,6 @@ use Rattle.pool.specs.declared.node.Node.{Node}
 use Rattle.pool.specs.declared.account.Account.{Account}
 use Rattle.pool.specs.Slice.{At, Stands?, Chain}
 
--- the record at a key once v is put where o was
-abbrev pub added : {V : Type 0} → (V → V → V) → V → Option V → V
-added join v None = v
-added join v (Some u) = join u v
-
 -- the nodes that a new key needs: one in an empty map, else two
 abbrev pub new-key-takes : {K V : Type 0} → Option (Tree K V) → ℕ
 new-key-takes None = 1

@@ -1,6 +1,8 @@
 //! Printing and parsing agree.
 ghost use mathlib.Core.Path.{_≡_};
 ghost use Rattle.script.specs.Agreement.{Agrees};
+ghost use Rattle.script.specs.Forms.{said};
+ghost use Rattle.std.specs.Of.String.{string-bytes};
 ghost use Rattle.std.specs.Vec.{made};
 use crate::call::Call;
 use crate::call::CallDisplay;
@@ -9,7 +11,7 @@ use crate::parser::parse;
 use std::alloc::AllocError;
 use std::alloc::Global;
 
-/// The theorem, for every call; nothing is run.
+/// The theorem, for every call; there is nothing to run.
 pub fn lines_say_their_calls()
     ensures lines_say_their_calls { λ _. ⌜ Agrees ⌝ }
 {}
@@ -18,7 +20,12 @@ pub fn lines_say_their_calls()
 pub fn reread(heap: Global, call: Call) -> Result<Line, AllocError>
     ensures says_the_call { λ r. ⌜ made r (λ line. line ≡ Line.Call call) ⌝ }
 {
-    lines_say_their_calls();
-    let line = format!(heap, "{call}")?;
+    let line = printed(heap, call)?;
     Ok(parse(line.as_bytes()))
+}
+
+fn printed(heap: Global, call: Call) -> Result<String, AllocError>
+    ensures says_the_call { λ r. ⌜ made r (λ line. said (string-bytes line) ≡ Line.Call call) ⌝ }
+{
+    format!(heap, "{call}")
 }
