@@ -4,3 +4,4 @@ pub mod WalkEnds
 pub mod Writes
 pub mod Inserted
 pub mod Removed
+pub mod Faults

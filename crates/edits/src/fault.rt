@@ -1,5 +1,7 @@
 ghost use mathlib.Core.Path.{_≡_};
+ghost use Rattle.edits.specs.Faults.{as-refusal};
 ghost use Rattle.edits.specs.declared.fault.InsertFault.the-variants.{OutOfOrder};
+use pool::GrowRefusal;
 use pool::OutOfOrder;
 
 /// Why an insertion ends early.
@@ -16,5 +18,16 @@ pub impl From<OutOfOrder> for InsertFault as InsertFaultFromOutOfOrder {
 
     fn from(_fault: OutOfOrder) -> InsertFault {
         InsertFault::OutOfOrder
+    }
+}
+
+pub impl From<InsertFault> for GrowRefusal as GrowRefusalFromInsertFault {
+    ghost converts = { λ x y. y ≡ as-refusal x };
+
+    fn from(fault: InsertFault) -> GrowRefusal {
+        match fault {
+            InsertFault::OutOfOrder => GrowRefusal::OutOfOrder,
+            InsertFault::TooFewNodes => GrowRefusal::TooFewNodes,
+        }
     }
 }
