@@ -5,7 +5,7 @@ use pool::Shelf;
 use pool::WalkRefusal;
 
 /// How many shelves a book has.
-const SHELVES: u8 = 8;
+pub const SHELVES: u8 = 8;
 
 /// The row of a shelf, once shelf number and slice length are found right.
 pub fn row_of<K: Copy, V: Copy>(

@@ -16,5 +16,7 @@ returns c = record {
     pair-of-tags-and-setting = refl;
     lamp-code = refl;
     lamp-width = refl;
+    pool-of-three = refl;
+    pool-of-none = refl;
   };
 }

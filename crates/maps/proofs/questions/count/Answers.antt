@@ -1,9 +1,11 @@
 use native.Mathlib.Omega.{arith}
-use Rattle.keys.proofs.Laws.{key-laws}
-use Rattle.pool.proofs.Told.{row-told}
 use Rattle.maps.proofs.questions.count.Needs as need
 
 pub returns : need.returns
-returns g c =
-    let law = key-laws (g .K·KeyKind) (g .K·KeyKind·met .«places_bounded» .1) (g .K·KeyKind·met .«same_bits») in
-    record { answers-as-every-machine-held = λ join. (omega arith, λ ns m h. row-told (g .K·KeyKind) law join ns _ m h (c .args .shelf) (omega arith)) }
+returns g c = record {
+  answers-as-every-machine-held = λ join. (
+    omega arith,
+    λ ns m h.
+        c .the-book-tells .ensures .keys join ns m (c .args .shelf) _ h (omega arith) (c .keys-of .ensures .from-its-row),
+  );
+}
