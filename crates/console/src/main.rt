@@ -1,6 +1,8 @@
 //! The console: a script of calls on standard input, and the answer to each on standard output.
 mod session;
 mod store;
+mod task;
+mod wording;
 
 use std::error::AnyError;
 

@@ -3,6 +3,10 @@ ghost use mathlib.Core.List.{List, [], _∷_, _++_};
 ghost use mathlib.Core.Path.{_≡_};
 ghost use Prim.Native.Nat.{ℕ};
 use crate::store::Store;
+use crate::task::Task;
+use crate::wording::spoken;
+use crate::wording::task;
+use runs::Call as PoolCall;
 use script::Answer;
 use script::AnswerDisplay;
 use script::Call;
@@ -13,10 +17,15 @@ use std::io;
 use std::io::BufRead;
 use std::io::BufReader;
 
+/// A map of so many keys fills the largest pool.
+const MOST_KEYS: u16 = 2048;
+
 /// Carries out a script to its end, and prints each answer before the next line is read.
 pub(crate) fn run(rt: &LibcRuntime) -> Result<(), AnyError> {
     let mut input = BufReader::new(rt.stdin());
-    let mut store = Store::new(rt.alloc());
+    let Ok(mut store) = Store::open(rt.alloc(), 0)? else {
+        return Err("a pool of no nodes was refused".into());
+    };
     let mut line = Vec::new(rt.alloc());
     for number in 1..u64::MAX {
         line.clear();
@@ -43,10 +52,37 @@ fn without_line_feed(line: &[u8]) -> &[u8]
 }
 
 fn carry_out(rt: &LibcRuntime, store: &mut Store, call: Call) -> io::Result<()> {
-    match call {
-        Call::Open { nodes } => rt.println(store.open(nodes)),
-        Call::Put { shelf, key, record } => rt.println(store.put(shelf, key, record)?),
-        Call::Look { shelf, key } => rt.println(store.look(shelf, key)),
-        Call::List { shelf } => store.list(rt, shelf),
+    match task(call) {
+        Task::Open(nodes) => open(rt, store, nodes),
+        Task::List(shelf) => list(rt, store, shelf),
+        Task::Play(call) => rt.println(spoken(call, store.play(&call))),
     }
+}
+
+/// A pool that is refused leaves the one before it.
+fn open(rt: &LibcRuntime, store: &mut Store, nodes: u32) -> io::Result<()> {
+    match Store::open(rt.alloc(), nodes)? {
+        Ok(opened) => {
+            *store = opened;
+            rt.println(Answer::Done)
+        }
+        Err(refusal) => rt.println(Answer::Refused(refusal.cause())),
+    }
+}
+
+/// Goes from key to key, and tells how many there were.
+fn list(rt: &LibcRuntime, store: &mut Store, shelf: u8) -> io::Result<()> {
+    let mut bound = None;
+    for count in 0..=MOST_KEYS {
+        let next = PoolCall::Next { shelf, bound };
+        match spoken(next, store.play(&next)) {
+            Answer::Entry(key, record) => {
+                rt.println(Answer::Entry(key, record))?;
+                bound = Some(key);
+            }
+            Answer::Nothing => return rt.println(Answer::End(count)),
+            refused => return rt.println(refused),
+        }
+    }
+    Ok(())
 }

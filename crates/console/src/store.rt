@@ -1,121 +1,59 @@
-//! The maps of the console, in a map of the standard library.
-//!
-//! It stands in for the pool of maps, and answers as the pool does: it counts the nodes that the
-//! trees of its entries take, so that a put is refused where they do not suffice.
-use causes::Cause;
+//! The pool of maps that the console works on.
+ghost use mathlib.Core.Path.{_≡_};
+ghost use Rattle.console.specs.Keeping.{Opened, Plays};
+ghost use Rattle.std.specs.Of.Vec.{vec-len};
+ghost use Rattle.std.specs.Vec.{made};
 use keys::Word;
+use keys::WordKind;
+use pool::Book;
+use pool::Node;
+use pool::OpenRefusal;
+use pool::open;
 use records::HoursJoin;
-use records::HoursKind;
-use records::Joining;
 use records::Lamp;
 use records::PairJoin;
-use records::PairKind;
 use records::SettingJoin;
-use records::SettingKind;
 use records::TagsJoin;
-use records::TagsKind;
-use script::Answer;
-use script::AnswerDisplay;
+use runs::Answer;
+use runs::Call;
+use runs::play;
+use std::alloc::AllocError;
 use std::alloc::Global;
-use std::collections::BTreeMap;
-use std::io;
-
-const LAST_SHELF: u8 = 7;
 
 const MOST_NODES: u32 = 4096;
 
-/// Where a record stands; places are in order by shelf, then by key.
-#[derive(Clone, Copy, PartialEq, Eq, PartialOrd, Ord)]
-struct Place {
-    shelf: u8,
-    light: u32,
-}
-
 #[derive(Drop)]
 pub(crate) struct Store {
-    free: u32,
-    entries: BTreeMap<Place, (Word, Lamp)>,
+    nodes: Vec<Node<Word, Lamp>>,
+    book: Book,
 }
 
 impl Store {
-    /// A pool of no nodes, as there is before the first is opened.
-    pub(crate) fn new(heap: Global) -> Store {
-        Store {
-            free: 0,
-            entries: BTreeMap::new(heap),
+    /// A pool of so many nodes, in which every map is empty.
+    pub(crate) fn open(heap: Global, count: u32) -> Result<Result<Store, OpenRefusal>, AllocError>
+        ensures opens_an_empty_pool { λ r. ⌜ made r (λ opened. Opened count opened) ⌝ }
+    {
+        // One node too many is refused as any number above it is, and takes little memory.
+        let mut nodes = free_nodes(heap, count.min(MOST_NODES + 1) as usize)?;
+        match open(nodes.as_mut_slice()) {
+            Ok(book) => Ok(Ok(Store { nodes, book })),
+            Err(refusal) => Ok(Err(refusal)),
         }
     }
 
-    pub(crate) fn open(&mut self, nodes: u32) -> Answer {
-        if nodes > MOST_NODES {
-            return Answer::Refused(Cause::TooManyNodes);
-        }
-        self.free = nodes;
-        self.entries.clear();
-        Answer::Done
+    pub(crate) fn play(&mut self, call: &Call<Word, Lamp>) -> Answer<Word, Lamp>
+        ensures plays_as_the_machine { λ r. ⌜ Plays (now (self .entry)) (now (call .entry)) r (now (self .exit)) ⌝ }
+    {
+        play(self.nodes.as_mut_slice(), &mut self.book, call)
     }
+}
 
-    /// The record joins the one that is held at its key.
-    pub(crate) fn put(&mut self, shelf: u8, key: Word, record: Lamp) -> io::Result<Answer> {
-        if shelf > LAST_SHELF {
-            return Ok(Answer::Refused(Cause::NoSuchShelf));
-        }
-        let place = Place {
-            shelf,
-            light: key.light,
-        };
-        let held = self.entries.get(&place).copied();
-        let joined = match held {
-            Some(old) => old.1.join(record),
-            None => {
-                let needed = self.needed(shelf);
-                if self.free < needed {
-                    return Ok(Answer::Refused(Cause::TooFewNodes));
-                }
-                self.free -= needed;
-                record
-            }
-        };
-        self.entries.insert(place, (key, joined))?;
-        Ok(Answer::Done)
+fn free_nodes(heap: Global, count: usize) -> Result<Vec<Node<Word, Lamp>>, AllocError>
+    ensures has_so_many { λ r. ⌜ made r (λ nodes. vec-len nodes ≡ count) ⌝ }
+{
+    let mut nodes = Vec::new(heap);
+    for _made in 0..count {
+        nodes.push(Node::Free { next: 0 })?;
     }
-
-    /// A new key takes a leaf, and a branch above it unless it is its shelf's first.
-    fn needed(&self, shelf: u8) -> u32 {
-        for place in self.entries.keys() {
-            if place.shelf == shelf {
-                return 2;
-            }
-        }
-        1
-    }
-
-    pub(crate) fn look(&self, shelf: u8, key: Word) -> Answer {
-        if shelf > LAST_SHELF {
-            return Answer::Refused(Cause::NoSuchShelf);
-        }
-        let place = Place {
-            shelf,
-            light: key.light,
-        };
-        match self.entries.get(&place) {
-            Some((_, record)) => Answer::Record(*record),
-            None => Answer::Nothing,
-        }
-    }
-
-    /// Prints the entries of a shelf, in rising order of key, and their number.
-    pub(crate) fn list(&self, rt: &LibcRuntime, shelf: u8) -> io::Result<()> {
-        if shelf > LAST_SHELF {
-            return rt.println(Answer::Refused(Cause::NoSuchShelf));
-        }
-        let mut count = 0;
-        for (place, (key, record)) in self.entries.iter() {
-            if place.shelf == shelf {
-                rt.println(Answer::Entry(*key, *record))?;
-                count += 1;
-            }
-        }
-        rt.println(Answer::End(count))
-    }
+    Ok(nodes)
 }

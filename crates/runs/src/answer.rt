@@ -11,6 +11,6 @@ pub enum Answer<K, V> {
     Entry(Option<(K, V)>),
     /// A number of keys or of nodes.
     Number(u16),
-    /// It was refused, and changed nothing.
+    /// It was refused; on a pool in good order, or of another length, nothing changed.
     Refused(Cause),
 }

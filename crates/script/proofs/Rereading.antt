@@ -18,7 +18,7 @@ use Rattle.std.proofs.shelf.Numerals.{Numerals, numerals-by-fold}
 use Rattle.std.proofs.shelf.Tests.{and-parts, leb-true}
 use Rattle.keys.specs.declared.values.Word.{Word}
 use Rattle.script.specs.declared.call.Call.{Call}
-use Rattle.script.specs.declared.call.Call.the-variants.{Open, Put, Look, List as Listing}
+use Rattle.script.specs.declared.call.Call.the-variants.{Open, Put, Look, Remove, Next, List as Listing, Clear, Count, Free}
 use Rattle.script.specs.declared.line.Line.{Line}
 use Rattle.script.specs.Forms.{meaning}
 use Rattle.script.specs.Numerals.{digit, numeral, below}
@@ -113,18 +113,34 @@ meaning-reads : (c : Call) → Fitting c → meaning (call-words c) ≡ Line.Cal
 meaning-reads (Open n) h = rw (nodes-reads n [] h)
 meaning-reads (Put s k r) h = rw (shelf-reads s _ h, key-reads k _, lamp-reads r)
 meaning-reads (Look s k) h = rw (shelf-reads s _ h, key-reads k _)
+meaning-reads (Remove s k) h = rw (shelf-reads s _ h, key-reads k _)
+meaning-reads (Next s None) h = rw (shelf-reads s _ h)
+meaning-reads (Next s (Some k)) h = rw (shelf-reads s _ h, key-reads k _)
 meaning-reads (Listing s) h = rw (shelf-reads s _ h)
+meaning-reads (Clear s) h = rw (shelf-reads s _ h)
+meaning-reads (Count s) h = rw (shelf-reads s _ h)
+meaning-reads Free h = refl
+
+shelf-solid : (s : ℕ) → s < 2 ^ 8 → Solid (decimal s)
+shelf-solid s h = solid-decimal s (omega arith)
+
+key-solid : (k : Word) → Solid (key-word k)
+key-solid k = solid-decimal (k .light) (omega (arith, k .fits))
 
 name-solid : (w : List ℕ) → 0 < length w → All Letter w → Solid w
 name-solid w h j = record { some = h; letters = j }
 
 call-solid : (c : Call) → Fitting c → All Solid (call-words c)
 call-solid (Open n) h = (name-solid _ (omega arith) (omega arith), (solid-decimal n (omega arith), tt))
-call-solid (Put s k r) h =
-    (name-solid _ (omega arith) (omega arith), (solid-decimal s (omega arith), (solid-decimal (k .light) (omega (arith, k .fits)), lamp-solid r)))
-call-solid (Look s k) h =
-    (name-solid _ (omega arith) (omega arith), (solid-decimal s (omega arith), (solid-decimal (k .light) (omega (arith, k .fits)), tt)))
-call-solid (Listing s) h = (name-solid _ (omega arith) (omega arith), (solid-decimal s (omega arith), tt))
+call-solid (Put s k r) h = (name-solid _ (omega arith) (omega arith), (shelf-solid s h, (key-solid k, lamp-solid r)))
+call-solid (Look s k) h = (name-solid _ (omega arith) (omega arith), (shelf-solid s h, (key-solid k, tt)))
+call-solid (Remove s k) h = (name-solid _ (omega arith) (omega arith), (shelf-solid s h, (key-solid k, tt)))
+call-solid (Next s None) h = (name-solid _ (omega arith) (omega arith), (shelf-solid s h, tt))
+call-solid (Next s (Some k)) h = (name-solid _ (omega arith) (omega arith), (shelf-solid s h, (key-solid k, tt)))
+call-solid (Listing s) h = (name-solid _ (omega arith) (omega arith), (shelf-solid s h, tt))
+call-solid (Clear s) h = (name-solid _ (omega arith) (omega arith), (shelf-solid s h, tt))
+call-solid (Count s) h = (name-solid _ (omega arith) (omega arith), (shelf-solid s h, tt))
+call-solid Free h = (name-solid _ (omega arith) (omega arith), tt)
 
 pub agrees : Agrees
 agrees c h = ap meaning (words-spaced (call-words c) (call-solid c h)) ∙ meaning-reads c h

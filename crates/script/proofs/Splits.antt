@@ -4,9 +4,12 @@ use mathlib.Core.List.{List, [], _∷_, _++_}
 use mathlib.Core.Path.{_≡_, refl, sym, ap, _∙_}
 use Prim.Native.Nat.{ℕ, suc, _+_, _<_, _≤_}
 use native.Mathlib.Omega.{arith}
+use lib.Dec.{eqb}
 use lib.ListN.{length, getD, take, drop}
 use Rattle.script.specs.Cursor.{word-end}
+use Rattle.script.specs.Readings.{ended}
 use Rattle.std.proofs.shelf.Lists.{at-drop-more, at-drop-all}
+use Rattle.std.proofs.shelf.Tests.{ne-eqb}
 use Rattle.script.specs.Splitting.{blank, comment-mark, uncommented, in-front, pieces, filled, words-in}
 
 pub words-in-none : words-in [] ≡ []
@@ -49,6 +52,13 @@ words-in-front [] h e = absurd (omega arith)
 words-in-front (b ∷ bs) h e =
     let f = front (b ∷ bs) in
     ap filled (f .first) ∙ rw e (ap (λ (ws : List (List ℕ)). (b ∷ take (word-end bs) bs) ∷ ws) (rw e at (f .rest)))
+
+-- a text that begins with no blank has no word only where it is empty
+pub ended-front : (text : List ℕ) → (0 < length text → blank (getD text 0 0) ≡ false) → ended (words-in text) ≡ eqb (length text) 0
+ended-front [] begins = ap ended words-in-none
+ended-front (b ∷ bs) begins =
+    let some : 0 < length (b ∷ bs) = omega arith in
+    ap ended (words-in-front (b ∷ bs) some (begins some)) ∙ sym (ne-eqb (length (b ∷ bs)) 0 (omega arith))
 
 -- the comment, and a byte before it
 pub uncommented-at-mark : (line : List ℕ) (i : ℕ) → i < length line → comment-mark (getD line i 0) ≡ true → uncommented (drop i line) ≡ []

@@ -3,7 +3,7 @@ use mathlib.Core.Path.{_≡_}
 use Prim.Native.Nat.{_^_, _<_}
 use Rattle.script.specs.Forms.{said}
 use Rattle.script.specs.Printing.{line-of}
-use Rattle.script.specs.declared.call.Call.the-variants.{Open, Put, Look, List as Listing}
+use Rattle.script.specs.declared.call.Call.the-variants.{Open, Put, Look, Remove, Next, List as Listing, Clear, Count, Free}
 use Rattle.script.specs.declared.call.Call.{Call}
 use Rattle.script.specs.declared.line.Line.{Line}
 
@@ -12,7 +12,12 @@ abbrev pub Fitting : Call → Type 0
 Fitting (Open n) = n < 2 ^ 32
 Fitting (Put s k r) = s < 2 ^ 8
 Fitting (Look s k) = s < 2 ^ 8
+Fitting (Remove s k) = s < 2 ^ 8
+Fitting (Next s b) = s < 2 ^ 8
 Fitting (Listing s) = s < 2 ^ 8
+Fitting (Clear s) = s < 2 ^ 8
+Fitting (Count s) = s < 2 ^ 8
+Fitting Free = Unit {0}
 
 -- the line that is printed of a call says that call
 abbrev pub Agrees : Type 0

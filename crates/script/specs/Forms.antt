@@ -8,7 +8,7 @@ use Rattle.std.specs.declared.option.Option.the-variants.{Some, None}
 use Rattle.std.specs.shelf.Text.{sameBytes}
 use Rattle.script.specs.declared.call.Call.{Call}
 use Rattle.script.specs.declared.line.Line.{Line}
-use Rattle.script.specs.Readings.{Reading, return, _>>=_, shelf, nodes}
+use Rattle.script.specs.Readings.{Reading, return, _>>=_, optional, shelf, nodes}
 use Rattle.script.specs.Splitting.{words}
 use Rattle.script.specs.Values.{key, lamp}
 
@@ -33,11 +33,41 @@ look-form = do
   k ← key
   return (Call.Look s k)
 
+-- `remove S K`
+abbrev pub remove-form : Reading Call
+remove-form = do
+  s ← shelf
+  k ← key
+  return (Call.Remove s k)
+
+-- `next S` or `next S K`
+abbrev pub next-form : Reading Call
+next-form = do
+  s ← shelf
+  k ← optional key
+  return (Call.Next s k)
+
 -- `list S`
 abbrev pub list-form : Reading Call
 list-form = do
   s ← shelf
   return (Call.List s)
+
+-- `clear S`
+abbrev pub clear-form : Reading Call
+clear-form = do
+  s ← shelf
+  return (Call.Clear s)
+
+-- `count S`
+abbrev pub count-form : Reading Call
+count-form = do
+  s ← shelf
+  return (Call.Count s)
+
+-- `free`
+abbrev pub free-form : Reading Call
+free-form = return Call.Free
 
 -- no call has the name
 abbrev pub no-form : Reading Call
@@ -53,7 +83,12 @@ form name =
     at name (codes "open") open-form
     (at name (codes "put") put-form
     (at name (codes "look") look-form
-    (at name (codes "list") list-form no-form)))
+    (at name (codes "remove") remove-form
+    (at name (codes "next") next-form
+    (at name (codes "list") list-form
+    (at name (codes "clear") clear-form
+    (at name (codes "count") count-form
+    (at name (codes "free") free-form no-form))))))))
 
 -- a call is a line's only if no word is left over
 abbrev pub alone : Call → List (List ℕ) → Line

@@ -1,4 +1,5 @@
 -- Readings: what is taken from the front of a list of words.
+use mathlib.Core.Bool.{Bool, true, false, cond}
 use mathlib.Core.List.{List, [], _∷_}
 use Prim.Native.Nat.{ℕ, _^_}
 use Rattle.script.specs.Numerals.{numeral, Below, below}
@@ -26,6 +27,15 @@ following (Some x) f = f (x .0) (x .1)
 -- one reading after another; where one gives nothing, so do both
 abbrev pub _>>=_ : {A B : Type 0} → Reading A → (A → Reading B) → Reading B
 _>>=_ p f ws = following (p ws) f
+
+-- whether no word is left
+abbrev pub ended : List (List ℕ) → Bool
+ended [] = true
+ended (w ∷ ws) = false
+
+-- a reading that may be left out at the end of the words: a value, or none where no word is left
+abbrev pub optional : {A : Type 0} → Reading A → Reading (Option A)
+optional p ws = cond (ended ws) (return None ws) (following (p ws) (λ x. return (Some x)))
 
 -- the next word, as a number below the limit
 unfoldable pub number : (limit : ℕ) → Reading (Below limit)

@@ -16,10 +16,14 @@ pub enum Answer {
     Record(Lamp),
     /// There is no record at the key.
     Nothing,
-    /// A key of the list, with its record.
+    /// A key with its record.
     Entry(Word, Lamp),
     /// The list is whole, with so many entries.
-    End(usize),
+    End(u16),
+    /// A shelf has so many keys.
+    Count(u16),
+    /// So many nodes are free.
+    Free(u16),
     Refused(Cause),
     /// The line of this number spells no call.
     BadLine(u64),
@@ -35,6 +39,8 @@ pub impl fmt::Display for Answer as AnswerDisplay {
             Answer::Nothing => write!(f, "none"),
             Answer::Entry(key, record) => write!(f, "entry {} {}", key.light, Fields(record)),
             Answer::End(count) => write!(f, "end {count}"),
+            Answer::Count(keys) => write!(f, "count {keys}"),
+            Answer::Free(nodes) => write!(f, "free {nodes}"),
             Answer::Refused(cause) => write!(f, "refused {}", cause.number()),
             Answer::BadLine(number) => write!(f, "bad line {number}"),
         }

@@ -15,8 +15,18 @@ pub enum Call {
     Put { shelf: u8, key: Word, record: Lamp },
     /// The record at a key.
     Look { shelf: u8, key: Word },
+    /// The record at a key, which leaves the shelf with its key.
+    Remove { shelf: u8, key: Word },
+    /// The least key after the bound with its record; without a bound, the least of all.
+    Next { shelf: u8, bound: Option<Word> },
     /// Every key of a shelf with its record.
     List { shelf: u8 },
+    /// A shelf with no key.
+    Clear { shelf: u8 },
+    /// The number of keys of a shelf.
+    Count { shelf: u8 },
+    /// The number of nodes that no shelf uses.
+    Free,
 }
 
 /// A call is printed as the line that spells it.
@@ -33,7 +43,15 @@ pub impl fmt::Display for Call as CallDisplay {
                 Fields(record)
             ),
             Call::Look { shelf, key } => write!(f, "look {shelf} {}", key.light),
+            Call::Remove { shelf, key } => write!(f, "remove {shelf} {}", key.light),
+            Call::Next { shelf, bound } => match bound {
+                None => write!(f, "next {shelf}"),
+                Some(key) => write!(f, "next {shelf} {}", key.light),
+            },
             Call::List { shelf } => write!(f, "list {shelf}"),
+            Call::Clear { shelf } => write!(f, "clear {shelf}"),
+            Call::Count { shelf } => write!(f, "count {shelf}"),
+            Call::Free => write!(f, "free"),
         }
     }
 }

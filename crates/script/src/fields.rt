@@ -3,7 +3,7 @@
 ghost use mathlib.Core.Path.{_≡_};
 ghost use Prim.Native.Nat.{suc, _^_, _≤_};
 ghost use Rattle.script.specs.Cursor.{left};
-ghost use Rattle.script.specs.Readings.{given, value, shelf, nodes};
+ghost use Rattle.script.specs.Readings.{given, optional, value, shelf, nodes};
 ghost use Rattle.script.specs.Values.{key, lamp, lamp-words};
 ghost use Rattle.script.specs.Printing.{spaced};
 ghost use Rattle.std.specs.Slices.{found};
@@ -57,6 +57,16 @@ impl Words<'_> {
         Some(Word {
             light: self.long()?,
         })
+    }
+
+    /// A key, or none where the line ends.
+    pub(crate) fn bound(&mut self) -> Option<Option<Word>>
+        ensures reads_a_key_or_the_end { λ r. ⌜ optional key (left (now (self .entry))) ≡ given r (left (now (self .exit))) ⌝ }
+    {
+        if self.is_empty() {
+            return Some(None);
+        }
+        Some(Some(self.key()?))
     }
 
     pub(crate) fn record(&mut self) -> Option<Lamp>

@@ -1,7 +1,7 @@
 //! From a line of a script to what it says.
 ghost use mathlib.Core.Path.{_≡_};
 ghost use Rattle.script.specs.Cursor.{left};
-ghost use Rattle.script.specs.Forms.{open-form, put-form, look-form, list-form, form, said};
+ghost use Rattle.script.specs.Forms.{open-form, put-form, look-form, remove-form, next-form, list-form, clear-form, count-form, form, said};
 ghost use Rattle.script.specs.Readings.{given};
 use crate::call::Call;
 use crate::line::Line;
@@ -36,10 +36,44 @@ impl Words<'_> {
         })
     }
 
+    fn remove(&mut self) -> Option<Call>
+        ensures reads_the_call { λ r. ⌜ remove-form (left (now (self .entry))) ≡ given r (left (now (self .exit))) ⌝ }
+    {
+        Some(Call::Remove {
+            shelf: self.shelf()?,
+            key: self.key()?,
+        })
+    }
+
+    fn next(&mut self) -> Option<Call>
+        ensures reads_the_call { λ r. ⌜ next-form (left (now (self .entry))) ≡ given r (left (now (self .exit))) ⌝ }
+    {
+        Some(Call::Next {
+            shelf: self.shelf()?,
+            bound: self.bound()?,
+        })
+    }
+
     fn list(&mut self) -> Option<Call>
         ensures reads_the_call { λ r. ⌜ list-form (left (now (self .entry))) ≡ given r (left (now (self .exit))) ⌝ }
     {
         Some(Call::List {
+            shelf: self.shelf()?,
+        })
+    }
+
+    fn clear(&mut self) -> Option<Call>
+        ensures reads_the_call { λ r. ⌜ clear-form (left (now (self .entry))) ≡ given r (left (now (self .exit))) ⌝ }
+    {
+        Some(Call::Clear {
+            shelf: self.shelf()?,
+        })
+    }
+
+    fn count(&mut self) -> Option<Call>
+        ensures reads_the_call { λ r. ⌜ count-form (left (now (self .entry))) ≡ given r (left (now (self .exit))) ⌝ }
+    {
+        Some(Call::Count {
             shelf: self.shelf()?,
         })
     }
@@ -54,7 +88,12 @@ impl Words<'_> {
             "open" => self.open(),
             "put" => self.put(),
             "look" => self.look(),
+            "remove" => self.remove(),
+            "next" => self.next(),
             "list" => self.list(),
+            "clear" => self.clear(),
+            "count" => self.count(),
+            "free" => Some(Call::Free),
             _ => None,
         }
     }

@@ -3,6 +3,7 @@ ghost use mathlib.Core.Bool.{false};
 ghost use mathlib.Core.Path.{_≡_};
 ghost use Prim.Native.Nat.{_<_};
 ghost use Rattle.script.specs.Cursor.{left, word-end, Taken};
+ghost use Rattle.script.specs.Readings.{ended};
 ghost use Rattle.script.specs.Splitting.{blank, comment-mark, carriage-return, unreturned, uncommented, words-in, words};
 ghost use lib.ListN.{length, getD};
 
@@ -19,6 +20,12 @@ impl<'a> Words<'a> {
         Words {
             rest: without_comment(without_return(line)),
         }
+    }
+
+    pub(crate) fn is_empty(&self) -> bool
+        ensures tells_whether_none_is_left { λ r. ⌜ r ≡ ended (left (now (self .entry))) ⌝ }
+    {
+        without_blanks(self.rest).is_empty()
     }
 
     /// Takes the first word, where one is left.

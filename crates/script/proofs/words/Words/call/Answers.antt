@@ -13,7 +13,12 @@ returns-in-rest c =
         no-text-no-name name (codes "open") broken (omega arith),
         no-text-no-name name (codes "put") broken (omega arith),
         no-text-no-name name (codes "look") broken (omega arith),
+        no-text-no-name name (codes "remove") broken (omega arith),
+        no-text-no-name name (codes "next") broken (omega arith),
         no-text-no-name name (codes "list") broken (omega arith),
+        no-text-no-name name (codes "clear") broken (omega arith),
+        no-text-no-name name (codes "count") broken (omega arith),
+        no-text-no-name name (codes "free") broken (omega arith),
       );
     }
 
@@ -27,6 +32,11 @@ returns-in-rest-name c =
         other-name name (codes "open") (λ e. other .not-open (same ∙ e)),
         other-name name (codes "put") (λ e. other .not-put (same ∙ e)),
         other-name name (codes "look") (λ e. other .not-look (same ∙ e)),
+        other-name name (codes "remove") (λ e. other .not-remove (same ∙ e)),
+        other-name name (codes "next") (λ e. other .not-next (same ∙ e)),
         other-name name (codes "list") (λ e. other .not-list (same ∙ e)),
+        other-name name (codes "clear") (λ e. other .not-clear (same ∙ e)),
+        other-name name (codes "count") (λ e. other .not-count (same ∙ e)),
+        other-name name (codes "free") (λ e. other .not-free (same ∙ e)),
       );
     }
