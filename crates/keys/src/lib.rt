@@ -1,5 +1,7 @@
 //! Key kinds: the interface that a maker's keys meet, our own two kinds, and how keys compare.
 
+#![tactic(auto)]
+
 mod cell;
 mod compare;
 mod facts;

@@ -1,4 +1,7 @@
 //! Numbers as bytes, the highest byte first.
+
+#![tactic(auto)]
+
 mod fixed;
 mod numbers;
 

@@ -3,6 +3,9 @@
 //! A maker brings a kind of his own by two traits. `RecordKind` says how a record is written as bytes; `Joining`
 //! says what two records of one key join to. All other code is generic over them, and proved from their laws alone.
 //! The kinds of this crate are hours, tags, settings and marks, and a pair of any two kinds.
+
+#![tactic(auto)]
+
 mod hours;
 mod joining;
 mod kind;

@@ -1,5 +1,7 @@
 //! Patricia trees as the contracts speak of them. No code runs here: the functions carry theorems.
 
+#![tactic(auto)]
+
 ghost use Rattle.trees.specs.Theorems.{OneTree, EntriesRise};
 
 use keys::KeyKind;

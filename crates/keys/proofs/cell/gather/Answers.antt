@@ -7,11 +7,11 @@ use Rattle.keys.proofs.cell.gather.Goals as goal
 pub loop-i-init : goal.loop-i-init
 loop-i-init c = binary_none (λ i. digit c.args.n (c.args.top - 2 * i))
 
-pub overflow-mul-r : goal.overflow-mul-r
-overflow-mul-r c = omega (arith, binary_room c.loop-i.r c.loop-i.i 15 (λ i. digit c.args.n (c.args.top - 2 * i)) c.loop-i.invariant (omega arith))
+pub overflow_mul-r : goal.overflow_mul-r
+overflow_mul-r c = omega (arith, binary_room c.loop-i.r c.loop-i.i 15 (λ i. digit c.args.n (c.args.top - 2 * i)) c.loop-i.invariant (omega arith))
 
-pub overflow-add-r : goal.overflow-add-r
-overflow-add-r c = omega (arith, binary_room c.loop-i.r c.loop-i.i 15 (λ i. digit c.args.n (c.args.top - 2 * i)) c.loop-i.invariant (omega arith))
+pub overflow_add-r : goal.overflow_add-r
+overflow_add-r c = omega (arith, binary_room c.loop-i.r c.loop-i.i 15 (λ i. digit c.args.n (c.args.top - 2 * i)) c.loop-i.invariant (omega arith))
 
 pub loop-i-preserved : goal.loop-i-preserved
 loop-i-preserved c =
@@ -22,4 +22,4 @@ pub returns : goal.returns
 unfolding every_second_bit
 returns c =
     let done : c.loop-i.i ≡ 16 = omega arith in
-    record { is-every-second-bit = c.loop-i.invariant ∙ ap (λ (k : ℕ). binary k (λ i. digit c.args.n (c.args.top - 2 * i))) done }
+    record { is_every_second_bit = c.loop-i.invariant ∙ ap (λ (k : ℕ). binary k (λ i. digit c.args.n (c.args.top - 2 * i))) done }

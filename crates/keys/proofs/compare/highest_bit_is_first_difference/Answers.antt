@@ -14,13 +14,13 @@ returns g c =
     let a = c.args.a in
     let b = c.args.b in
     record {
-      equal-numbers = λ x y n e.
+      equal_numbers = λ x y n e.
           let same : a ≡ b = g.met.K.KeyKind.same_bits a b (binary_same κ.places (κ.bit a) (κ.bit b) (sym n.first ∙ xor_same x y e ∙ n.second)) in
           (same, ap (split κ a) (sym same) ∙ split_refl κ a);
-      zeros-past-idle-places = λ x y w n e some.
+      zeros_past_idle_places = λ x y w n e some.
           let l = led κ a b x y n.first n.second g.met.K.KeyKind.places_bounded.1 (omega arith) in
           omega (arith, l.idle);
-      first-place = λ x y w n e some.
+      first_place = λ x y w n e some.
           let l = led κ a b x y n.first n.second g.met.K.KeyKind.places_bounded.1 (omega arith) in
           let first = subst (λ (v : ℕ). FirstDifference κ a b (count_leading_zeros 64 (bit_xor x y) - (64 - v))) (sym e) l.first in
           (first, first_is_split κ a b _ first);

@@ -11,28 +11,28 @@ use Rattle.maps.proofs.questions.next.Goals as goal
 pub returns : goal.returns
 returns g c =
     let law = key_laws g.K.KeyKind g.met.K.KeyKind.places_bounded.1 g.met.K.KeyKind.same_bits in
-    let row = c.in-ok-row.ensures.row-or-refusal in
+    let row = c.in_ok-row.ensures.row_or_refusal in
     record {
-      answers-as-every-machine-held = λ join. (
+      answers_as_every_machine_held = λ join. (
         (row.0, tt),
         row.1,
         λ m h.
             let map = get_or h.maps c.args.shelf None in
             let rooted = rooted_row g.K.KeyKind law join _ _ m h c.args.shelf row.0 _ row.2 in
-            ok_same _ _ (c.in-ok-found.ensures.finds-the-next-entry map rooted)
+            ok_same _ _ (c.in_ok-found.ensures.finds_the_next_entry map rooted)
             ∙ next_told g.K.KeyKind law join c.args.bound (entries_if_any map) (list_of m c.args.shelf) (map_rises g.K.KeyKind map rooted.ordered) (h.found c.args.shelf row.0),
       );
     }
 
-pub returns-in-err-found : goal.returns-in-err-found
-returns-in-err-found g c =
+pub returns-in_err-found : goal.returns-in_err-found
+returns-in_err-found g c =
     let law = key_laws g.K.KeyKind g.met.K.KeyKind.places_bounded.1 g.met.K.KeyKind.same_bits in
-    let row = c.in-ok-row.ensures.row-or-refusal in
-    let p = err_from_is_err_and c.from-residual-in-err-found.result c.from-residual-in-err-found.ensures.1 in
+    let row = c.in_ok-row.ensures.row_or_refusal in
+    let p = err_from_is_err_and c.from_residual-in_err-found.result c.from_residual-in_err-found.ensures.1 in
     record {
-      answers-as-every-machine-held = λ join. rw (p.1, p.2) (
+      answers_as_every_machine_held = λ join. rw (p.1, p.2) (
         (row.0, tt),
         λ m h.
-            err_is_not_ok _ _ (c.in-err-found.ensures.finds-the-next-entry (get_or h.maps c.args.shelf None) (rooted_row g.K.KeyKind law join _ _ m h c.args.shelf row.0 _ row.2)),
+            err_is_not_ok _ _ (c.in_err-found.ensures.finds_the_next_entry (get_or h.maps c.args.shelf None) (rooted_row g.K.KeyKind law join _ _ m h c.args.shelf row.0 _ row.2)),
       );
     }

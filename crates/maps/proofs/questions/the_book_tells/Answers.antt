@@ -8,5 +8,5 @@ returns g c =
     let law = key_laws g.K.KeyKind g.met.K.KeyKind.places_bounded.1 g.met.K.KeyKind.same_bits in
     record {
       keys = λ join ns m s n h l e. e ∙ row_told g.K.KeyKind law join ns _ m h s l;
-      free-nodes = λ join ns m h. free_told g.K.KeyKind law join ns _ m h;
+      free_nodes = λ join ns m h. free_told g.K.KeyKind law join ns _ m h;
     }

@@ -9,11 +9,11 @@ returns c =
     let whole = c.in-Ok.ensures.1 in
     let l = c.in-Ok.four in
     let all = listing_all 4 l (ap length whole.same ∙ whole.long) in
-    let octets : Octets l = λ i. omega (arith, c.type-inv.bytes i, ap (λ (l : List ℕ). get_or l i 0) whole.same) in
+    let octets : Octets l = λ i. omega (arith, c.type_inv.bytes i, ap (λ (l : List ℕ). get_or l i 0) whole.same) in
     record {
-      reads-four = (
+      reads_four = (
         whole.long,
-        c.from-be-bytes.ensures ∙ sym (from_four l 0) ∙ ap from_big_endian (all ∙ whole.same),
-        ap (big_endian 4) c.from-be-bytes.ensures ∙ written_four l 0 octets ∙ all ∙ whole.same,
+        c.from_be_bytes.ensures ∙ sym (from_four l 0) ∙ ap from_big_endian (all ∙ whole.same),
+        ap (big_endian 4) c.from_be_bytes.ensures ∙ written_four l 0 octets ∙ all ∙ whole.same,
       );
     }

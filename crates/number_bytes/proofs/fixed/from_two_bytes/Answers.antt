@@ -9,11 +9,11 @@ returns c =
     let whole = c.in-Ok.ensures.1 in
     let l = c.in-Ok.two in
     let all = listing_all 2 l (ap length whole.same ∙ whole.long) in
-    let octets : Octets l = λ i. omega (arith, c.type-inv.bytes i, ap (λ (l : List ℕ). get_or l i 0) whole.same) in
+    let octets : Octets l = λ i. omega (arith, c.type_inv.bytes i, ap (λ (l : List ℕ). get_or l i 0) whole.same) in
     record {
       reads_two = (
         whole.long,
-        c.from-be-bytes.ensures ∙ sym (from_two l 0) ∙ ap from_big_endian (all ∙ whole.same),
-        ap (big_endian 2) c.from-be-bytes.ensures ∙ written_two l 0 octets ∙ all ∙ whole.same,
+        c.from_be_bytes.ensures ∙ sym (from_two l 0) ∙ ap from_big_endian (all ∙ whole.same),
+        ap (big_endian 2) c.from_be_bytes.ensures ∙ written_two l 0 octets ∙ all ∙ whole.same,
       );
     }

@@ -32,4 +32,4 @@ none_left zero n l h = refl
 none_left (suc i) n l h = absurd (omega arith)
 
 pub returns : goal.returns
-returns c = record { lowest-bytes = none_left c.loop-i.i c.loop-i.rest c.loop-i.out (omega arith) ∙ c.loop-i.invariant }
+returns c = record { lowest_bytes = none_left c.loop-i.i c.loop-i.rest c.loop-i.out (omega arith) ∙ c.loop-i.invariant }

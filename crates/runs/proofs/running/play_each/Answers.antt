@@ -23,7 +23,7 @@ loop-i-preserved g c =
       (λ m h.
           let was = c.loop-i.invariant.0 m h in
           let n = was.0 in
-          let t = c.play-answer.ensures.answers-and-leaves-as-the-machine n was.1 in
+          let t = c.play-answer.ensures.answers_and_leaves_as_the_machine n was.1 in
           let t0 = t.0 in
           let w2 = was.2 in
           let w3 = was.3 in
@@ -40,7 +40,7 @@ loop-i-preserved g c =
 
 pub returns : goal.returns
 returns g c = record {
-  as-the-machine = λ m h.
+  as_the_machine = λ m h.
       let j = g.V.Joining.joined in
       let κ = g.K.KeyKind in
       let xs = c.args.calls.now in

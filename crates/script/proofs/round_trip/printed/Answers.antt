@@ -12,5 +12,5 @@ returns c =
     let call = c.args.call in
     let fits : Fitting call = search rules in
     record {
-      says-the-call = IfOk-weaker c.format.result (λ line. string_bytes line ≡ line_of call) (λ line. said (string_bytes line) ≡ Line.Call call) (λ line e. ap said e ∙ agrees call fits) c.format.ensures.ok;
+      says_the_call = IfOk-weaker c.format.result (λ line. string_bytes line ≡ line_of call) (λ line. said (string_bytes line) ≡ Line.Call call) (λ line e. ap said e ∙ agrees call fits) c.format.ensures.ok;
     }

@@ -4,10 +4,10 @@ use Rattle.script.specs.Splitting.{words_in}
 use Rattle.script.proofs.Splits.{words_in_blank}
 use Rattle.script.proofs.words.without_blanks.Goals as goal
 
-pub returns-then-not-is-blank : goal.returns-then-not-is-blank
-returns-then-not-is-blank c = record {
-  has-the-same-words = rw take_rest c.loop-i.invariant;
-  begins-a-word = λ _. rw (take_rest, get_or-drop, add-zero) (sym c.if-not-is-blank.ensures.tells-blanks);
+pub returns-then-not-is_blank : goal.returns-then-not-is_blank
+returns-then-not-is_blank c = record {
+  has_the_same_words = rw take_rest c.loop-i.invariant;
+  begins_a_word = λ _. rw (take_rest, get_or-drop, add-zero) (sym c.if-not-is_blank.ensures.tells_blanks);
 }
 
 pub loop-i-preserved : goal.loop-i-preserved
@@ -15,7 +15,7 @@ loop-i-preserved c =
     let text = c.args.text.now in
     let i = c.loop-i.i in
     let here = at_drop_more words_in text i 0 (omega arith) in
-    let skipped = words_in_blank (get_or text i 0) (drop (i + 1) text) (sym c.if-not-is-blank.ensures.tells-blanks) in
+    let skipped = words_in_blank (get_or text i 0) (drop (i + 1) text) (sym c.if-not-is_blank.ensures.tells_blanks) in
     sym (here ∙ skipped) ∙ c.loop-i.invariant
 
 pub returns : goal.returns
@@ -26,6 +26,6 @@ returns c =
     let all : n ≤ n = omega arith in
     let none = take_rest text n ∙ drop_all n text all in
     record {
-      has-the-same-words = ap words_in (none ∙ sym (drop_all i text c.loop-i-test.false)) ∙ c.loop-i.invariant;
-      begins-a-word = λ h. absurd (omega (arith, ap length none));
+      has_the_same_words = ap words_in (none ∙ sym (drop_all i text c.loop-i-test.false)) ∙ c.loop-i.invariant;
+      begins_a_word = λ h. absurd (omega (arith, ap length none));
     }

@@ -4,17 +4,17 @@ use Rattle.trees.specs.Find.{lookup}
 use Rattle.walks.proofs.Growing.{rooted_grows}
 use Rattle.walks.proofs.lookup.look.Goals as goal
 
-pub returns-in-err-found : goal.returns-in-err-found
-returns-in-err-found g c = record {
-  finds-the-record = rooted_grows g.K.KeyKind c.args.nodes.now
-      (λ (map : Option (Tree _ _)). c.from-residual.result ≡ Ok (lookup g.K.KeyKind (entries_if_any map) c.args.key))
-      c.in-Some.is (λ t h. absurd (c.in-err-found.ensures.only-leaf-for-the-key t h));
+pub returns-in_err-found : goal.returns-in_err-found
+returns-in_err-found g c = record {
+  finds_the_record = rooted_grows g.K.KeyKind c.args.nodes.now
+      (λ (map : Option (Tree _ _)). c.from_residual.result ≡ Ok (lookup g.K.KeyKind (entries_if_any map) c.args.key))
+      c.in-Some.is (λ t h. absurd (c.in_err-found.ensures.only_leaf_for_the_key t h));
 }
 
 pub returns : goal.returns
 returns g c = record {
-  finds-the-record = rooted_grows g.K.KeyKind c.args.nodes.now
-      (λ (map : Option (Tree _ _)). Ok c.record-for.result ≡ Ok (lookup g.K.KeyKind (entries_if_any map) c.args.key))
+  finds_the_record = rooted_grows g.K.KeyKind c.args.nodes.now
+      (λ (map : Option (Tree _ _)). Ok c.record_for.result ≡ Ok (lookup g.K.KeyKind (entries_if_any map) c.args.key))
       c.in-Some.is
-      (λ t h. ap Ok (c.record-for.ensures.if-the-keys-are-one ∙ sym (c.in-ok-found.ensures.only-leaf-for-the-key t h)));
+      (λ t h. ap Ok (c.record_for.ensures.if_the_keys_are_one ∙ sym (c.in_ok-found.ensures.only_leaf_for_the_key t h)));
 }

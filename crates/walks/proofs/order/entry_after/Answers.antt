@@ -5,37 +5,37 @@ use Rattle.walks.proofs.order.entry_after.Goals as goal
 pub loop-step-init : goal.loop-step-init
 loop-step-init g c = onward_begins g.K.KeyKind _ _ _
 
-pub returns-in-err-step : goal.returns-in-err-step
-returns-in-err-step g c = record {
-  first-entry-after = λ t h. absurd (onward_none g.K.KeyKind _ _ _ _ _ _ c.loop-step.invariant
-      c.in-err-step.ensures.node-or-no-tree t h);
+pub returns-in_err-step : goal.returns-in_err-step
+returns-in_err-step g c = record {
+  first_entry_after = λ t h. absurd (onward_none g.K.KeyKind _ _ _ _ _ _ c.loop-step.invariant
+      c.in_err-step.ensures.node_or_no_tree t h);
 }
 
-pub returns-then-comes-before : goal.returns-then-comes-before
-returns-then-comes-before g c = record {
-  first-entry-after = leaf_after g.K.KeyKind _ _ _ _ _ _ c.loop-step.invariant c.in-ok-step.ensures.node-or-no-tree c.in-Leaf.is
-      (ltb-true _ _ (sym c.if-comes-before.ensures.by_number));
+pub returns-then-comes_before : goal.returns-then-comes_before
+returns-then-comes_before g c = record {
+  first_entry_after = leaf_after g.K.KeyKind _ _ _ _ _ _ c.loop-step.invariant c.in_ok-step.ensures.node_or_no_tree c.in-Leaf.is
+      (ltb-true _ _ (sym c.if-comes_before.ensures.by_number));
 }
 
 pub returns-in-Leaf : goal.returns-in-Leaf
 returns-in-Leaf g c = record {
-  first-entry-after = falls_back g.K.KeyKind _ _ _ _ _ _ c.loop-step.invariant c.first-of.result c.first-of.ensures.first-entry-if-any
-      (leaf_nothing g.K.KeyKind _ _ _ _ _ _ c.loop-step.invariant c.in-ok-step.ensures.node-or-no-tree c.in-Leaf.is (ltb-false _ _ (sym c.if-comes-before.ensures.by_number)));
+  first_entry_after = falls_back g.K.KeyKind _ _ _ _ _ _ c.loop-step.invariant c.first_of.result c.first_of.ensures.first_entry_if_any
+      (leaf_nothing g.K.KeyKind _ _ _ _ _ _ c.loop-step.invariant c.in_ok-step.ensures.node_or_no_tree c.in-Leaf.is (ltb-false _ _ (sym c.if-comes_before.ensures.by_number)));
 }
 
 pub returns-in-After : goal.returns-in-After
 returns-in-After g c = record {
-  first-entry-after = branch_after g.K.KeyKind _ _ _ _ _ _ c.loop-step.invariant c.in-ok-step.ensures.node-or-no-tree c.in-Branch.is c.in-After.ensures.by-the-first-difference
-      c.first-of-in-After.result c.first-of-in-After.ensures.first-entry-if-any;
+  first_entry_after = branch_after g.K.KeyKind _ _ _ _ _ _ c.loop-step.invariant c.in_ok-step.ensures.node_or_no_tree c.in-Branch.is c.in-After.ensures.by_the_first_difference
+      c.first_of-in-After.result c.first_of-in-After.ensures.first_entry_if_any;
 }
 
 pub returns-in-Before : goal.returns-in-Before
 returns-in-Before g c = record {
-  first-entry-after = falls_back g.K.KeyKind _ _ _ _ _ _ c.loop-step.invariant c.first-of-in-Before.result c.first-of-in-Before.ensures.first-entry-if-any
-      (branch_nothing g.K.KeyKind _ _ _ _ _ _ c.loop-step.invariant c.in-ok-step.ensures.node-or-no-tree c.in-Branch.is c.in-Before.ensures.by-the-first-difference);
+  first_entry_after = falls_back g.K.KeyKind _ _ _ _ _ _ c.loop-step.invariant c.first_of-in-Before.result c.first_of-in-Before.ensures.first_entry_if_any
+      (branch_nothing g.K.KeyKind _ _ _ _ _ _ c.loop-step.invariant c.in_ok-step.ensures.node_or_no_tree c.in-Branch.is c.in-Before.ensures.by_the_first_difference);
 }
 
 pub loop-step-preserved : goal.loop-step-preserved
 loop-step-preserved g c =
-    onward_along g.K.KeyKind _ _ _ _ _ _ c.loop-step.invariant c.in-Along.to_one c.descend-side.result c.in-ok-step.ensures.node-or-no-tree c.in-Branch.is
-    c.in-Along.ensures.by-the-first-difference c.descend-side.ensures.side-one-is-later
+    onward_along g.K.KeyKind _ _ _ _ _ _ c.loop-step.invariant c.in-Along.to_one c.descend-side.result c.in_ok-step.ensures.node_or_no_tree c.in-Branch.is
+    c.in-Along.ensures.by_the_first_difference c.descend-side.ensures.side_one_is_later

@@ -5,17 +5,17 @@ use Rattle.walks.proofs.order.leftmost.Goals as goal
 pub loop-step-init : goal.loop-step-init
 loop-step-init g c = leftward_begins g.K.KeyKind _ _
 
-pub returns-in-err-step : goal.returns-in-err-step
-returns-in-err-step g c = record {
+pub returns-in_err-step : goal.returns-in_err-step
+returns-in_err-step g c = record {
   first_entry = λ t h. absurd (leftward_none g.K.KeyKind _ _ _ _ c.loop-step.invariant
-      c.in-err-step.ensures.node-or-no-tree t h);
+      c.in_err-step.ensures.node_or_no_tree t h);
 }
 
 pub returns-in-Leaf : goal.returns-in-Leaf
 returns-in-Leaf g c = record {
-  first_entry = λ t h. ap Ok (leftward_leaf g.K.KeyKind _ _ _ _ c.loop-step.invariant c.in-ok-step.ensures.node-or-no-tree c.in-Leaf.is t h);
+  first_entry = λ t h. ap Ok (leftward_leaf g.K.KeyKind _ _ _ _ c.loop-step.invariant c.in_ok-step.ensures.node_or_no_tree c.in-Leaf.is t h);
 }
 
 pub loop-step-preserved : goal.loop-step-preserved
 loop-step-preserved g c =
-    leftward_zero g.K.KeyKind _ _ _ _ c.loop-step.invariant c.in-ok-step.ensures.node-or-no-tree c.in-Branch.is
+    leftward_zero g.K.KeyKind _ _ _ _ c.loop-step.invariant c.in_ok-step.ensures.node_or_no_tree c.in-Branch.is

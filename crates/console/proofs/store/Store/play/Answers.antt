@@ -10,11 +10,11 @@ pub returns : goal.returns
 returns c =
     let before = c.args.self.now in
     let call = c.args.call.now in
-    let length_kept : length c.play.new.nodes ≡ before.nodes.len = omega (arith, c.play.auto.nodes, c.as-mut-slice.ensures.len) in
+    let length_kept : length c.play.new.nodes ≡ before.nodes.len = omega (arith, c.play.auto.nodes, c.as_mut_slice.ensures.len) in
     let whole = take_at c.play.new.nodes _ before.nodes.len length_kept in
     record {
-      plays-as-the-machine = λ m keeps.
-          let lent = subst (λ ns. Holds word-kind lamps_joined ns before.book m) (sym c.as-mut-slice.ensures.value) keeps in
-          let told = c.play.ensures.answers-and-leaves-as-the-machine m lent in
+      plays_as_the_machine = λ m keeps.
+          let lent = subst (λ ns. Holds word-kind lamps_joined ns before.book m) (sym c.as_mut_slice.ensures.value) keeps in
+          let told = c.play.ensures.answers_and_leaves_as_the_machine m lent in
           (told.0, subst (λ ns. Holds word-kind lamps_joined ns c.play.new.book (step word-kind m call)) (sym whole) told.1);
     }

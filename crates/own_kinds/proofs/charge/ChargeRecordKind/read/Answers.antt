@@ -12,4 +12,4 @@ one_byte (b ∷ []) h = refl
 one_byte (b ∷ (c ∷ l)) h = absurd (omega arith)
 
 pub returns : goal.returns
-returns c = record { reads-what-is-written = λ w. one_byte c.args.from.now (omega arith) }
+returns c = record { reads_what_is_written = λ w. one_byte c.args.from.now (omega arith) }

@@ -10,12 +10,12 @@ returns g c =
     let a = c.args.self.first in
     let b = c.args.self.second in
     record {
-      fills-its-width = λ h e.
+      fills_its_width = λ h e.
           let p = first_narrow m n h in
-          filled_in_two m n c.byte-width-mid.result c.args.out.now c.write.new.out c.write-2.new.out
+          filled_in_two m n c.byte_width-mid.result c.args.out.now c.write.new.out c.write-2.new.out
           (g.A.RecordKind.bytes a) (g.B.RecordKind.bytes b)
-          c.byte-width-mid.ensures.gives-the-width (e ∙ width_sum m n h) (g.met.A.RecordKind.sized p a)
-          (c.write.ensures.fills-its-width p)
-          (c.write-2.ensures.fills-its-width (second_narrow m n h));
-      other-length-unchanged = λ h other. elim (other (omega arith)) [ ];
+          c.byte_width-mid.ensures.gives_the_width (e ∙ width_sum m n h) (g.met.A.RecordKind.sized p a)
+          (c.write.ensures.fills_its_width p)
+          (c.write-2.ensures.fills_its_width (second_narrow m n h));
+      other_length_unchanged = λ h other. elim (other (omega arith)) [ ];
     }

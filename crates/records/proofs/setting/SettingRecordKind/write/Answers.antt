@@ -7,15 +7,15 @@ use Rattle.records.proofs.setting.SettingRecordKind.write.Goals as goal
 pub returns : goal.returns
 returns c =
     let s = c.args.self in
-    let xs = c.copy-from-slice.new.self in
-    let ys = c.copy-from-slice-2.new.self in
-    let zs = c.copy-from-slice-3.new.self in
-    let stamp : xs ≡ big_endian 4 s.stamp = c.copy-from-slice.ensures.after ∙ c.four-bytes.ensures.written in
-    let source : ys ≡ big_endian 2 s.source = c.copy-from-slice-2.ensures.after ∙ c.two-bytes.ensures.written in
-    let word : zs ≡ big_endian 2 s.word = c.copy-from-slice-3.ensures.after ∙ c.two-bytes-2.ensures.written in
+    let xs = c.copy_from_slice.new.self in
+    let ys = c.copy_from_slice-2.new.self in
+    let zs = c.copy_from_slice-3.new.self in
+    let stamp : xs ≡ big_endian 4 s.stamp = c.copy_from_slice.ensures.after ∙ c.four_bytes.ensures.written in
+    let source : ys ≡ big_endian 2 s.source = c.copy_from_slice-2.ensures.after ∙ c.two_bytes.ensures.written in
+    let word : zs ≡ big_endian 2 s.word = c.copy_from_slice-3.ensures.after ∙ c.two_bytes-2.ensures.written in
     record {
-      fills-its-width = λ h e.
+      fills_its_width = λ h e.
           filled_in_three 4 2 2 c.args.out.now xs ys zs (ap length stamp ∙ length_big_endian 4 s.stamp) (ap length source ∙ length_big_endian 2 s.source) e
           ∙ ap₂ ◌++◌ stamp (ap₂ ◌++◌ source word);
-      other-length-unchanged = λ h other. absurd (other (omega arith));
+      other_length_unchanged = λ h other. absurd (other (omega arith));
     }

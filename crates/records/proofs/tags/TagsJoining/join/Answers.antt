@@ -3,8 +3,8 @@ use lib.Bits.{or_lt}
 use Rattle.records.specs.SameValues.{tags_same}
 use Rattle.records.proofs.tags.TagsJoining.join.Goals as goal
 
-pub invariant-of-result : goal.invariant-of-result
-invariant-of-result c = (or_lt 16 _ _ c.args.self.fits c.args.other.fits, tt)
+pub invariant_of-result : goal.invariant_of-result
+invariant_of-result c = (or_lt 16 _ _ c.args.self.fits c.args.other.fits, tt)
 
 pub returns : goal.returns
 returns c = record { joins = tags_same _ _ refl }

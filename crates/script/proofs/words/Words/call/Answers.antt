@@ -2,12 +2,12 @@ use Rattle.std.proofs.Common.{codes, sym, ◌∙◌, subst, arith}
 use Rattle.script.proofs.Names.{other_name, no_text_no_name}
 use Rattle.script.proofs.words.Words.call.Goals as goal
 
-pub returns-in-default : goal.returns-in-default
-returns-in-default c =
+pub returns-in_default : goal.returns-in_default
+returns-in_default c =
     let name = c.args.name.now in
-    let broken = c.in-default.ensures.cases.0 in
+    let broken = c.in_default.ensures.cases.0 in
     record {
-      reads-the-call = rw (
+      reads_the_call = rw (
         no_text_no_name name (codes "open") broken (omega arith),
         no_text_no_name name (codes "put") broken (omega arith),
         no_text_no_name name (codes "look") broken (omega arith),
@@ -20,13 +20,13 @@ returns-in-default c =
       );
     }
 
-pub returns-in-default-name : goal.returns-in-default-name
-returns-in-default-name c =
+pub returns-in_default-name : goal.returns-in_default-name
+returns-in_default-name c =
     let name = c.args.name.now in
     let same = c.in-Ok.ensures.cases.0 in
-    let other = c.in-default-name in
+    let other = c.in_default-name in
     record {
-      reads-the-call = rw (
+      reads_the_call = rw (
         other_name name (codes "open") (λ e. other.not-open (same ∙ e)),
         other_name name (codes "put") (λ e. other.not-put (same ∙ e)),
         other_name name (codes "look") (λ e. other.not-look (same ∙ e)),

@@ -5,6 +5,6 @@ use Rattle.script.proofs.words.Words.is_empty.Goals as goal
 
 pub returns : goal.returns
 returns c =
-    let text = c.without-blanks.result.now in
-    let same = ap ended c.without-blanks.ensures.has-the-same-words in
-    record { tells-whether-none-is-left = c.is-empty.ensures ∙ sym (ended_front text c.without-blanks.ensures.begins-a-word) ∙ same }
+    let text = c.without_blanks.result.now in
+    let same = ap ended c.without_blanks.ensures.has_the_same_words in
+    record { tells_whether_none_is_left = c.is_empty.ensures ∙ sym (ended_front text c.without_blanks.ensures.begins_a_word) ∙ same }

@@ -4,17 +4,17 @@ use Rattle.script.specs.Readings.{given, value}
 use Rattle.script.proofs.Readers.{value_of, value_none}
 use Rattle.script.proofs.words.Words.number.Goals as goal
 
-pub returns-in-err-next-word : goal.returns-in-err-next-word
-returns-in-err-next-word c =
-    let none = ap (value (suc c.args.most)) c.in-err-next-word.ensures.takes-the-first ∙ value_none (suc c.args.most) in
-    record { reads-a-number = rw c.from-residual.ensures none; is-at-most = rw c.from-residual.ensures tt }
+pub returns-in_err-next_word : goal.returns-in_err-next_word
+returns-in_err-next_word c =
+    let none = ap (value (suc c.args.most)) c.in_err-next_word.ensures.takes_the_first ∙ value_none (suc c.args.most) in
+    record { reads_a_number = rw c.from_residual.ensures none; is_at_most = rw c.from_residual.ensures tt }
 
 pub returns : goal.returns
 returns c =
     let limit = suc c.args.most in
-    let word = c.in-ok-next-word.field-0.now in
-    let rest = left c.next-word.new.self in
+    let word = c.in_ok-next_word.field-0.now in
+    let rest = left c.next_word.new.self in
     record {
-      reads-a-number = ap (value limit) c.in-ok-next-word.ensures.takes-the-first ∙ value_of limit word rest ∙ rw c.number-at-most.ensures.is-the-number;
-      is-at-most = c.number-at-most.ensures.is-at-most;
+      reads_a_number = ap (value limit) c.in_ok-next_word.ensures.takes_the_first ∙ value_of limit word rest ∙ rw c.number_at_most.ensures.is_the_number;
+      is_at_most = c.number_at_most.ensures.is_at_most;
     }

@@ -5,5 +5,5 @@ use Rattle.script.proofs.words.Words.of.Goals as goal
 pub returns : goal.returns
 unfolding words
 returns c = record {
-  has-all-words = ap words_in (c.without-comment.ensures.cuts-the-comment ∙ ap uncommented c.without-return.ensures.cuts-the-return);
+  has_all_words = ap words_in (c.without_comment.ensures.cuts_the_comment ∙ ap uncommented c.without_return.ensures.cuts_the_return);
 }
