@@ -1,5 +1,7 @@
 //! A lent pool of nodes and its book: what they are, good order, and the plain machine that says what calls mean.
 
+#![tactic(auto)]
+
 mod account;
 mod book;
 mod causing;

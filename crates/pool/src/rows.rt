@@ -1,4 +1,4 @@
-ghost use Rattle.std.specs.Prelude.{◌≡◌, ◌-◌, ◌*◌, ◌<◌, ◌≤◌, [], ◌∷◌};
+ghost use Rattle.std.specs.Prelude.{◌≡◌, ◌+◌, ◌-◌, ◌*◌, ◌<◌, ◌≤◌, [], ◌∷◌};
 ghost use Rattle.pool.specs.Books.{AccountOf, OtherRowsSame, Settled, SettledOver, keys_after};
 ghost use Rattle.pool.specs.GoodOrder.{empty_row};
 
