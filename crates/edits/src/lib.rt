@@ -3,6 +3,8 @@
 //! A change writes only nodes of its own tree and of the free chain. The tree's first node stays where it
 //! is as long as there is a tree, so that nothing that names it has to change.
 
+#![tactic(auto)]
+
 mod clearing;
 mod fault;
 mod inserting;

@@ -19,6 +19,9 @@
 //!
 //! A call is added by a variant and its printing in `call`, a reading in `parser`, and its rows in
 //! specs/Forms, specs/Printing and specs/Agreement.
+
+#![tactic(auto)]
+
 mod answer;
 mod call;
 mod fields;

@@ -1,5 +1,7 @@
 //! Questions to one tree: which record a key has, and which entry comes next.
 
+#![tactic(auto)]
+
 mod lookup;
 mod order;
 mod step;

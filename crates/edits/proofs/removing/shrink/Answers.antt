@@ -10,47 +10,47 @@ returns-then-not-same_key g c = record {
       (sym none, absent_key g.K.KeyKind _ _ _ _ map chain rooted beside none);
 }
 
-pub returns-in_err-after : goal.returns-in_err-after
-returns-in_err-after g c = record {
+pub returns-in_err-after-in-None : goal.returns-in_err-after-in-None
+returns-in_err-after-in-None g c = record {
   drops_one_key = λ map chain rooted beside.
       let lands = c.in_ok-landing.ensures.where_the_bits_lead map rooted in
       let room = room_for_one g.K.KeyKind _ _ _ _ _ map chain rooted beside lands in
-      absurd (omega (arith, c.in_err-after.ensures.first_of_chain_now.0));
+      absurd (omega (arith, c.in_err-after-in-None.ensures.first_of_chain_now.0));
 }
 
-pub returns-in_err-content : goal.returns-in_err-content
-returns-in_err-content g c = record {
+pub returns-in_err-content-in-Some : goal.returns-in_err-content-in-Some
+returns-in_err-content-in-Some g c = record {
   drops_one_key = λ map chain rooted beside.
       let lands = c.in_ok-landing.ensures.where_the_bits_lead map rooted in
       let room = room_for_two g.K.KeyKind _ _ _ _ _ _ map chain rooted beside lands c.in-Some.is in
-      absurd (omega (arith, c.in_err-content.ensures.node_or_past_end));
+      absurd (omega (arith, c.in_err-content-in-Some.ensures.node_or_past_end));
 }
 
-pub returns-in_err-after-2 : goal.returns-in_err-after-2
-returns-in_err-after-2 g c = record {
+pub returns-in_err-after-in-Some : goal.returns-in_err-after-in-Some
+returns-in_err-after-in-Some g c = record {
   drops_one_key = λ map chain rooted beside.
       let lands = c.in_ok-landing.ensures.where_the_bits_lead map rooted in
       let room = room_for_two g.K.KeyKind _ _ _ _ _ _ map chain rooted beside lands c.in-Some.is in
-      absurd (omega (arith, c.in_err-after-2.ensures.closed_up));
+      absurd (omega (arith, c.in_err-after-in-Some.ensures.closed_up));
 }
 
-pub returns-in_ok-after : goal.returns-in_ok-after
-returns-in_ok-after g c = record {
+pub returns-in_ok-after-in-None : goal.returns-in_ok-after-in-None
+returns-in_ok-after-in-None g c = record {
   drops_one_key = λ map chain rooted beside.
       let lands = c.in_ok-landing.ensures.where_the_bits_lead map rooted in
       let own = c.same_key.ensures.true_of_one_key c.if-not-same_key.false in (
         sym (lands_hit g.K.KeyKind _ _ map lands own),
-        removed_lone g.K.KeyKind _ _ _ _ _ _ _ map chain rooted beside lands own c.in-None.is c.in_ok-after.ensures.first_of_chain_now,
+        removed_lone g.K.KeyKind _ _ _ _ _ _ _ map chain rooted beside lands own c.in-None.is c.in_ok-after-in-None.ensures.first_of_chain_now,
       );
 }
 
-pub returns-in_ok-after-2 : goal.returns-in_ok-after-2
-returns-in_ok-after-2 g c = record {
+pub returns-in_ok-after-in-Some : goal.returns-in_ok-after-in-Some
+returns-in_ok-after-in-Some g c = record {
   drops_one_key = λ map chain rooted beside.
       let lands = c.in_ok-landing.ensures.where_the_bits_lead map rooted in
       let own = c.same_key.ensures.true_of_one_key c.if-not-same_key.false in (
         sym (lands_hit g.K.KeyKind _ _ map lands own),
         removed_closed g.K.KeyKind _ _ _ _ _ _ _ _ _ map chain rooted beside lands own c.in-Some.is
-            c.in_ok-content.ensures.node_or_past_end c.in_ok-after-2.ensures.closed_up,
+            c.in_ok-content-in-Some.ensures.node_or_past_end c.in_ok-after-in-Some.ensures.closed_up,
       );
 }

@@ -35,6 +35,6 @@ returns-in_default-name c =
         other_name name (codes "list") (λ e. other.not-list (same ∙ e)),
         other_name name (codes "clear") (λ e. other.not-clear (same ∙ e)),
         other_name name (codes "count") (λ e. other.not-count (same ∙ e)),
-        other_name name (codes "free") (λ e. other.not-Free (same ∙ e)),
+        other_name name (codes "free") (λ e. other.not-free (same ∙ e)),
       );
     }
