@@ -1,5 +1,7 @@
 //! The calls on one map of a pool, each proved against the plain machine.
 
+#![tactic(auto)]
+
 mod calls;
 mod questions;
 mod row;

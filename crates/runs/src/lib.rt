@@ -1,5 +1,7 @@
 //! Calls as data: one call played, and a list of calls as one claim about what is answered and what the pool then holds.
 
+#![tactic(auto)]
+
 mod answer;
 mod call;
 mod playing;

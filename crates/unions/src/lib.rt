@@ -5,6 +5,8 @@
 //! branches at one place the second is given back before their sides are united, so that one free node at the start
 //! is always enough.
 
+#![tactic(auto)]
+
 mod job;
 mod meeting;
 mod step;

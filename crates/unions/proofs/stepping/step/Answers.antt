@@ -18,47 +18,47 @@ returns-in_err-other g c = record {
       (λ e. second_vacant g.K.KeyKind g.V.Joining.joined _ _ _ rest turns end last _ c.in_ok-second.ensures.node_or_past_end c.in_err-other.ensures.place_and_key);
 }
 
-pub returns-in_err-after : goal.returns-in_err-after
-returns-in_err-after g c = record {
-  does_its_part = λ rest turns end last. MatchResult-from_err c.from_residual-in_err-after.result _ _ c.from_residual-in_err-after.ensures.0
-      (λ e. none_free g.K.KeyKind g.V.Joining.joined _ _ _ rest turns end last c.in_err-after.ensures.parted_or_none_free);
+pub returns-in_err-after-in-Apart : goal.returns-in_err-after-in-Apart
+returns-in_err-after-in-Apart g c = record {
+  does_its_part = λ rest turns end last. MatchResult-from_err c.from_residual-in_err-after-in-Apart.result _ _ c.from_residual-in_err-after-in-Apart.ensures.0
+      (λ e. none_free g.K.KeyKind g.V.Joining.joined _ _ _ rest turns end last c.in_err-after-in-Apart.ensures.parted_or_none_free);
 }
 
-pub returns-in_err-next : goal.returns-in_err-next
-returns-in_err-next g c = record {
-  does_its_part = λ rest turns end last. MatchResult-from_err c.from_residual-in_err-next.result _ _ c.from_residual-in_err-next.ensures.0
+pub returns-in_err-next-in-Into : goal.returns-in_err-next-in-Into
+returns-in_err-next-in-Into g c = record {
+  does_its_part = λ rest turns end last. MatchResult-from_err c.from_residual-in_err-next-in-Into.result _ _ c.from_residual-in_err-next-in-Into.ensures.0
       (λ e. step_into_failed g.K.KeyKind g.V.Joining.joined _ _ _ rest turns end last _ _ _ _ _ _ c.in_ok-first.ensures.node_or_past_end c.in_ok-second.ensures.node_or_past_end
       c.in_ok-face.ensures.place_and_key c.in_ok-other.ensures.place_and_key
-      (subst (λ (m : Meeting). Meets g.K.KeyKind c.in_ok-face.face.place c.in_ok-face.face.key c.in_ok-other.other.place c.in_ok-other.other.key m) c.in-Into.is c.meet.ensures.by_prefix_and_place) c.in_err-next.ensures.side_by_bit);
+      (subst (λ (m : Meeting). Meets g.K.KeyKind c.in_ok-face.face.place c.in_ok-face.face.key c.in_ok-other.other.place c.in_ok-other.other.key m) c.in-Into.is c.meet.ensures.by_prefix_and_place) c.in_err-next-in-Into.ensures.side_by_bit);
 }
 
-pub returns-in_err-next-2 : goal.returns-in_err-next-2
-returns-in_err-next-2 g c = record {
-  does_its_part = λ rest turns end last. MatchResult-from_err c.from_residual-in_err-next-2.result _ _ c.from_residual-in_err-next-2.ensures.0
+pub returns-in_err-next-in-Under : goal.returns-in_err-next-in-Under
+returns-in_err-next-in-Under g c = record {
+  does_its_part = λ rest turns end last. MatchResult-from_err c.from_residual-in_err-next-in-Under.result _ _ c.from_residual-in_err-next-in-Under.ensures.0
       (λ e. step_under_failed g.K.KeyKind g.V.Joining.joined _ _ _ rest turns end last _ _ _ _ _ _ c.in_ok-first.ensures.node_or_past_end c.in_ok-second.ensures.node_or_past_end
       c.in_ok-face.ensures.place_and_key c.in_ok-other.ensures.place_and_key
-      (subst (λ (m : Meeting). Meets g.K.KeyKind c.in_ok-face.face.place c.in_ok-face.face.key c.in_ok-other.other.place c.in_ok-other.other.key m) c.in-Under.is c.meet.ensures.by_prefix_and_place) c.in_err-next-2.ensures.swapped);
+      (subst (λ (m : Meeting). Meets g.K.KeyKind c.in_ok-face.face.place c.in_ok-face.face.key c.in_ok-other.other.place c.in_ok-other.other.key m) c.in-Under.is c.meet.ensures.by_prefix_and_place) c.in_err-next-in-Under.ensures.swapped);
 }
 
-pub returns-in_ok-after : goal.returns-in_ok-after
-returns-in_ok-after g c = record {
+pub returns-in_ok-after-in-Apart : goal.returns-in_ok-after-in-Apart
+returns-in_ok-after-in-Apart g c = record {
   does_its_part = λ rest turns end last. step_apart g.K.KeyKind g.V.Joining.joined _ _ _ rest turns end last _ _ _ _ _ _ c.in_ok-first.ensures.node_or_past_end c.in_ok-second.ensures.node_or_past_end
       c.in_ok-face.ensures.place_and_key c.in_ok-other.ensures.place_and_key _ _ _
-      (subst (λ (m : Meeting). Meets g.K.KeyKind c.in_ok-face.face.place c.in_ok-face.face.key c.in_ok-other.other.place c.in_ok-other.other.key m) c.in-Apart.is c.meet.ensures.by_prefix_and_place) c.in_ok-after.ensures.parted_or_none_free;
+      (subst (λ (m : Meeting). Meets g.K.KeyKind c.in_ok-face.face.place c.in_ok-face.face.key c.in_ok-other.other.place c.in_ok-other.other.key m) c.in-Apart.is c.meet.ensures.by_prefix_and_place) c.in_ok-after-in-Apart.ensures.parted_or_none_free;
 }
 
-pub returns-in_ok-next : goal.returns-in_ok-next
-returns-in_ok-next g c = record {
+pub returns-in_ok-next-in-Into : goal.returns-in_ok-next-in-Into
+returns-in_ok-next-in-Into g c = record {
   does_its_part = λ rest turns end last. step_into g.K.KeyKind g.V.Joining.joined _ _ _ rest turns end last _ _ _ _ _ _ _ c.in_ok-first.ensures.node_or_past_end c.in_ok-second.ensures.node_or_past_end
       c.in_ok-face.ensures.place_and_key c.in_ok-other.ensures.place_and_key
-      (subst (λ (m : Meeting). Meets g.K.KeyKind c.in_ok-face.face.place c.in_ok-face.face.key c.in_ok-other.other.place c.in_ok-other.other.key m) c.in-Into.is c.meet.ensures.by_prefix_and_place) c.in_ok-next.ensures.side_by_bit;
+      (subst (λ (m : Meeting). Meets g.K.KeyKind c.in_ok-face.face.place c.in_ok-face.face.key c.in_ok-other.other.place c.in_ok-other.other.key m) c.in-Into.is c.meet.ensures.by_prefix_and_place) c.in_ok-next-in-Into.ensures.side_by_bit;
 }
 
-pub returns-in_ok-next-2 : goal.returns-in_ok-next-2
-returns-in_ok-next-2 g c = record {
+pub returns-in_ok-next-in-Under : goal.returns-in_ok-next-in-Under
+returns-in_ok-next-in-Under g c = record {
   does_its_part = λ rest turns end last. step_under g.K.KeyKind g.V.Joining.joined _ _ _ rest turns end last _ _ _ _ _ _ _ _ c.in_ok-first.ensures.node_or_past_end c.in_ok-second.ensures.node_or_past_end
       c.in_ok-face.ensures.place_and_key c.in_ok-other.ensures.place_and_key
-      (subst (λ (m : Meeting). Meets g.K.KeyKind c.in_ok-face.face.place c.in_ok-face.face.key c.in_ok-other.other.place c.in_ok-other.other.key m) c.in-Under.is c.meet.ensures.by_prefix_and_place) c.in_ok-next-2.ensures.swapped;
+      (subst (λ (m : Meeting). Meets g.K.KeyKind c.in_ok-face.face.place c.in_ok-face.face.key c.in_ok-other.other.place c.in_ok-other.other.key m) c.in-Under.is c.meet.ensures.by_prefix_and_place) c.in_ok-next-in-Under.ensures.swapped;
 }
 
 pub returns-in-Level : goal.returns-in-Level

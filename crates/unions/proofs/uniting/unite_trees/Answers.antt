@@ -45,16 +45,16 @@ loop-turns-preserved-in-Next g c = λ end last work.
     (c.in_ok-after.ensures.does_its_part rest (c.loop-turns.turns - 1) end last)
     (ap (λ (s : Step). ahead s rest) c.in-Next.is) work)
 
-pub returns-in_err-push : goal.returns-in_err-push
-returns-in_err-push g c =
+pub returns-in_err-push-in-Both : goal.returns-in_err-push-in-Both
+returns-in_err-push-in-Both g c =
     let law = key_laws g.K.KeyKind g.met.K.KeyKind.places_bounded.1 g.met.K.KeyKind.same_bits in
     let rest = stacked c.loop-turns.waiting.items c.loop-turns.waiting.height in
     record {
-      does_the_work = MatchResult-from_err c.from_residual-in_err-push.result _ _ c.from_residual-in_err-push.ensures.0
+      does_the_work = MatchResult-from_err c.from_residual-in_err-push-in-Both.result _ _ c.from_residual-in_err-push-in-Both.ensures.0
           (λ e end last. c.loop-turns.invariant end last (turned g.K.KeyKind g.V.Joining.joined _ _ _ _ _ end last c.loop-turns-test.true _ _ _ _
           (c.in_ok-after.ensures.does_its_part rest (c.loop-turns.turns - 1) end last)
           (ap (λ (s : Step). ahead s rest) c.in-Both.is)
-          (work_deep g.K.KeyKind g.V.Joining.joined _ _ law _ _ _ _ end last c.in_err-push.ensures.on_top_or_full.0)));
+          (work_deep g.K.KeyKind g.V.Joining.joined _ _ law _ _ _ _ end last c.in_err-push-in-Both.ensures.on_top_or_full.0)));
     }
 
 pub loop-turns-preserved : goal.loop-turns-preserved
@@ -62,7 +62,7 @@ loop-turns-preserved g c = λ end last work.
     let rest = stacked c.loop-turns.waiting.items c.loop-turns.waiting.height in
     c.loop-turns.invariant end last (turned g.K.KeyKind g.V.Joining.joined _ _ _ _ _ end last c.loop-turns-test.true _ _ _ _
     (c.in_ok-after.ensures.does_its_part rest (c.loop-turns.turns - 1) end last)
-    (ap (λ (s : Step). ahead s rest) c.in-Both.is ∙ ap (λ (js : List Job). c.in-Both.next ∷ js) (sym c.in_ok-push.ensures.on_top_or_full))
+    (ap (λ (s : Step). ahead s rest) c.in-Both.is ∙ ap (λ (js : List Job). c.in-Both.next ∷ js) (sym c.in_ok-push-in-Both.ensures.on_top_or_full))
     work)
 
 pub returns : goal.returns
