@@ -1,5 +1,7 @@
 //! The console: a script of calls on standard input, and the answer to each on standard output.
 
+#![tactic(auto)]
+
 mod session;
 mod store;
 mod task;

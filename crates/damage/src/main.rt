@@ -4,6 +4,8 @@
 //! copy of each. The proofs say that every call answers and ends whatever the nodes and the book hold; this program
 //! shows it of the machine code, and its counts show where damage is noticed and where it goes unseen.
 
+#![tactic(auto)]
+
 mod deed;
 mod harm;
 mod listing;

@@ -1,6 +1,8 @@
 //! Worked values: one theorem that the checker computes, over the definitions that the contracts use, and tests of
 //! what no contract can hold.
 
+#![tactic(auto)]
+
 ghost use Rattle.values.specs.Values.{Values};
 
 mod wide;
