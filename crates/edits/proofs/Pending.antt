@@ -1,10 +1,10 @@
 -- Giving back a tree node by node: the trees that are still to be given back stand apart from one another and from the
 -- free chain, and each turn moves one node from them to the chain.
-use Rattle.std.proofs.Common.{◌≡◌, ℕ, ◌+◌, ◌<◌, ◌≤◌, List, [], ◌∷◌, ◌++◌, length, Some, None, Option, sym, refl, ap, ◌∙◌, subst, arith}
+use Rattle.std.proofs.Common.{◌≡◌, ℕ, ◌+◌, ◌≤◌, List, [], ◌∷◌, ◌++◌, length, Some, None, sym, refl, ap, ◌∙◌, subst, arith}
 use Rattle.keys.specs.Model.{KeyModel}
 use Rattle.trees.specs.Tree.{Tree, leaf, branch, one, times, root, size, uses}
 use Rattle.trees.specs.Order.{Ordered}
-use Rattle.trees.proofs.Move.{one_same, uses_root}
+use Rattle.trees.proofs.Move.{one_same}
 use Rattle.trees.proofs.Sizes.{size_pos}
 use Rattle.trees.proofs.Order.{ordered_lower}
 use Rattle.pool.specs.declared.node.Node.{Node}

@@ -1,9 +1,9 @@
 -- Trees and the free chain in a slice while nodes of it are written.
-use Rattle.std.proofs.Common.{◌≡◌, ℕ, ◌+◌, ◌<◌, ◌≤◌, List, [], ◌∷◌, length, get_or, set, sym, refl, ap, ◌∙◌, subst, arith, length-set, get_or-set_other, get_or-set_same}
+use Rattle.std.proofs.Common.{◌≡◌, ℕ, ◌+◌, ◌<◌, ◌≤◌, List, [], ◌∷◌, length, set, sym, refl, ap, ◌∙◌, subst, arith, length-set, get_or-set_other, get_or-set_same}
 use Rattle.trees.specs.Tree.{Tree, leaf, branch, one, times, root, uses, move}
 use Rattle.trees.proofs.Move.{one_same}
 use Rattle.pool.specs.declared.node.Node.{Node}
-use Rattle.pool.specs.declared.node.Node.TheVariants.{Free, Leaf, Branch}
+use Rattle.pool.specs.declared.node.Node.TheVariants.{Leaf}
 use Rattle.pool.specs.declared.account.Account.{Account}
 use Rattle.pool.specs.Slice.{At, Stands, Chain}
 use Rattle.pool.specs.Nodes.{Took}

@@ -3,7 +3,7 @@ use Rattle.std.proofs.Common.{◌≡◌, ℕ, ◌+◌, ◌<◌, ◌≤◌, Bool,
 use Rattle.keys.specs.Model.{KeyModel}
 use Rattle.keys.specs.Split.{split}
 use Rattle.keys.proofs.Splits.{split_le}
-use Rattle.trees.specs.Tree.{Tree, leaf, branch, root, first_entry}
+use Rattle.trees.specs.Tree.{Tree, branch, root, first_entry}
 use Rattle.trees.specs.Order.{Ordered}
 use Rattle.trees.specs.Insert.{here, left, right}
 use Rattle.trees.proofs.Insert.{spot_absent}

@@ -1,12 +1,12 @@
 -- The highest bit in which two numbers differ, found by the exclusive or and its leading zeros.
-use Rattle.std.proofs.Common.{◌≡◌, ℕ, zero, suc, ◌+◌, ◌-◌, ◌*◌, ◌/◌, ◌%◌, ◌^◌, ◌<◌, ◌≤◌, Bool, true, false, cond, eqb, sym, refl, ap, ◌∙◌, ⊎_elim, div-lt_iff_lt-mul, pow-suc, arith, pow_pos, pow_mono}
+use Rattle.std.proofs.Common.{◌≡◌, ℕ, zero, suc, ◌+◌, ◌-◌, ◌/◌, ◌%◌, ◌^◌, ◌<◌, ◌≤◌, eqb, sym, refl, ap, ◌∙◌, ⊎_elim, pow-suc, arith, pow_pos, pow_mono}
 use lib.Bits.{bit_xor, xor_shr, xor_mod, xor_lt, xor_self, xor_assoc, xor_zero_l, xor_zero_r}
 use lib.Count.{count_leading_zeros, leading_top}
 use Rattle.std.proofs.lemmas.Nat.{div_below, le-div}
 use Rattle.std.proofs.lemmas.Bool.{cases_lt}
 use Rattle.keys.specs.Bits.{digit, binary}
 use Rattle.keys.specs.Model.{KeyModel, FirstDifference}
-use Rattle.keys.specs.Binary.{binary_lt, binary_ext, digit_binary}
+use Rattle.keys.specs.Binary.{binary_lt, digit_binary}
 
 -- bit i of an exclusive or is the exclusive or of the bits
 xor_bit : (x y i : ℕ) → bit_xor x y / 2 ^ i % 2 ≡ bit_xor (x / 2 ^ i % 2) (y / 2 ^ i % 2)

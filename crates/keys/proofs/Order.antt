@@ -1,11 +1,11 @@
 -- The order of keys by number is the order by the first bit in which they differ.
-use Rattle.std.proofs.Common.{◌≡◌, ℕ, zero, suc, ◌+◌, ◌*◌, ◌<◌, ◌≤◌, Bool, true, false, cond, sym, refl, ap, ◌∙◌, subst, ap₂, ⊎_elim, arith}
+use Rattle.std.proofs.Common.{◌≡◌, ℕ, zero, suc, ◌<◌, ◌≤◌, Bool, true, false, sym, refl, ◌∙◌, subst, ⊎_elim, arith}
 use Rattle.std.proofs.lemmas.Bool.{cases_lt}
 use Rattle.keys.specs.Bits.{binary}
-use Rattle.keys.specs.Model.{KeyModel, number, Precedes, FirstDifference, LeftOf, OrderedByFirstDifference}
+use Rattle.keys.specs.Model.{KeyModel, Precedes, FirstDifference, LeftOf, OrderedByFirstDifference}
 use Rattle.keys.specs.Split.{split}
 use Rattle.keys.specs.Binary.{binary_ext, weight_le}
-use Rattle.keys.proofs.Splits.{split_le, split_same, split_is_first}
+use Rattle.keys.proofs.Splits.{split_same, split_is_first}
 
 -- what is smaller in its first m bits is smaller in more of them
 binary_less : (f g : ℕ → Bool) (n m : ℕ) → m ≤ n → binary m f < binary m g → binary n f < binary n g

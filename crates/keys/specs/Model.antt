@@ -1,5 +1,5 @@
 -- What every key kind means to the layers above: its places and bits, and what follows from them.
-use Rattle.std.specs.Prelude.{◌≡◌, ℕ, ◌<◌, ◌≤◌, Bool, false}
+use Rattle.std.specs.Prelude.{◌≡◌, ℕ, ◌<◌, ◌≤◌, false}
 use Rattle.keys.specs.Bits.{binary}
 use Rattle.keys.specs.declared.kind.KeyKind.{Ghosts}
 

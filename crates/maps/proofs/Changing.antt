@@ -1,7 +1,7 @@
 -- What a call that changed one shelf owes for every machine held.
-use Rattle.std.proofs.Common.{◌≡◌, ℕ, ◌+◌, ◌<◌, Bool, true, false, cond, List, [], ◌∷◌, ◌++◌, length, get_or, Some, None, Option, sym, refl, ap, ◌∙◌, ap₂}
+use Rattle.std.proofs.Common.{◌≡◌, ℕ, ◌+◌, ◌<◌, true, cond, List, [], ◌∷◌, ◌++◌, length, get_or, Some, None, Option, refl, ap, ◌∙◌, ap₂}
 use Rattle.keys.specs.Model.{KeyModel, KeyLaws}
-use Rattle.trees.specs.Tree.{Tree, times, uses_if_any, entries_if_any}
+use Rattle.trees.specs.Tree.{times, uses_if_any, entries_if_any}
 use Rattle.trees.specs.Find.{same_key, lookup}
 use Rattle.pool.specs.declared.node.Node.{Node}
 use Rattle.pool.specs.declared.account.Account.{Account}

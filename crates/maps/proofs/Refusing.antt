@@ -7,7 +7,7 @@ use Rattle.pool.specs.declared.node.Node.{Node}
 use Rattle.pool.specs.declared.shelf.Shelf.{Shelf}
 use Rattle.pool.specs.declared.book.Book.{Book}
 use Rattle.pool.specs.GoodOrder.{empty_row}
-use Rattle.pool.specs.Machine.{Machine, put_fits, after_put}
+use Rattle.pool.specs.Machine.{put_fits, after_put}
 use Rattle.pool.specs.Walks.{Rooted, Beside, new_key_takes}
 use Rattle.pool.specs.Promises.{Whole, Grown}
 use Rattle.pool.proofs.After.{beside_at}

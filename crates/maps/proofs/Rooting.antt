@@ -1,7 +1,6 @@
 -- What a walk from a row may assume, for every machine held.
-use Rattle.std.proofs.Common.{◌≡◌, ℕ, ◌<◌, List, get_or, None, Ok, Err, Option, Result, sym, subst, arith}
+use Rattle.std.proofs.Common.{◌≡◌, ℕ, ◌<◌, List, get_or, None, Ok, Err, Result, sym, subst, arith}
 use Rattle.keys.specs.Model.{KeyModel, KeyLaws}
-use Rattle.trees.specs.Tree.{Tree}
 use Rattle.pool.specs.declared.node.Node.{Node}
 use Rattle.pool.specs.declared.shelf.Shelf.{Shelf}
 use Rattle.pool.specs.declared.book.Book.{Book}

@@ -1,8 +1,8 @@
 -- One shelf changes: the eight stay in good order, and the pool holds the machine with that shelf's list rewritten.
-use Rattle.std.proofs.Common.{◌≡◌, ℕ, zero, suc, ◌+◌, ◌-◌, ◌*◌, ◌/◌, ◌<◌, ◌≤◌, min, Bool, true, false, cond, ltb, ◌≢◌, List, [], ◌∷◌, length, get_or, set, Some, None, Option, sym, refl, ap, ◌∙◌, subst, arith, length-set, get_or-set_other, get_or-set_same}
+use Rattle.std.proofs.Common.{◌≡◌, ℕ, zero, suc, ◌+◌, ◌<◌, ◌≤◌, Bool, true, false, cond, ltb, ◌≢◌, List, [], ◌∷◌, length, get_or, set, Some, None, Option, sym, refl, ap, ◌∙◌, subst, arith, length-set, get_or-set_other, get_or-set_same}
 use native.Mathlib.Decide.{ℕ_discrete}
 use Rattle.keys.specs.Model.{KeyModel, KeyLaws}
-use Rattle.trees.specs.Tree.{Tree, leaf, branch, one, times, uses, uses_if_any, size_if_any, entries_if_any}
+use Rattle.trees.specs.Tree.{Tree, leaf, branch, times, uses, uses_if_any, size_if_any, entries_if_any}
 use Rattle.trees.specs.Find.{lookup}
 use Rattle.trees.proofs.Sizes.{size_entries_if_any}
 use Rattle.pool.specs.declared.node.Node.{Node}
@@ -11,11 +11,11 @@ use Rattle.pool.specs.declared.shelf.Shelf.{Shelf}
 use Rattle.pool.specs.declared.book.Book.{Book}
 use Rattle.pool.specs.Slice.{At, Stands, StandsIfAny, Chain}
 use Rattle.pool.specs.GoodOrder.{States, Arranged, total, empty_row}
-use Rattle.pool.specs.Machine.{Machine, list_of, rewritten, record_at}
+use Rattle.pool.specs.Machine.{Machine, rewritten, record_at}
 use Rattle.pool.specs.Holds.{Holds}
 use Rattle.pool.specs.Walks.{Rooted, Beside, Left}
 use Rattle.pool.specs.Books.{keys_after}
-use Rattle.pool.proofs.Sums.{one_same, sum, sum_same, sizes, size_within, two_nodes}
+use Rattle.pool.proofs.Sums.{one_same, sum, sum_same, size_within, two_nodes}
 use Rattle.pool.proofs.Told.{all_in_use}
 
 pub most : (b : Bool) → cond b 1 0 ≤ 1

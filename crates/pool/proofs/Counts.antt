@@ -1,12 +1,12 @@
 -- The keys of a list of updates: which are listed, how many different ones there are, and that a tree which finds the
 -- same keys has as many entries.
-use Rattle.std.proofs.Common.{◌≡◌, ℕ, suc, ◌+◌, ◌*◌, ◌<◌, ◌≤◌, Bool, true, false, cond, eqb, List, [], ◌∷◌, ◌++◌, length, Some, None, Option, sym, refl, ap, ◌∙◌, subst, arith, eq-eqb, ne_eqb, eqb-true}
+use Rattle.std.proofs.Common.{◌≡◌, ℕ, suc, ◌+◌, ◌≤◌, Bool, true, false, cond, eqb, List, [], ◌∷◌, ◌++◌, length, Some, None, Option, sym, refl, ap, ◌∙◌, subst, arith, eq-eqb, ne_eqb, eqb-true}
 use borrow.Author.Tests.{eqb-false}
 use Rattle.keys.specs.Model.{KeyModel, KeyLaws, number}
 use Rattle.trees.specs.Find.{lookup}
 use Rattle.trees.proofs.Distinct.{Distinct}
 use Rattle.trees.specs.Union.{both}
-use Rattle.pool.specs.Machine.{says, record_at, listed, count_of, dropped}
+use Rattle.pool.specs.Machine.{record_at, listed, count_of, dropped}
 
 pub never : true ≡ false → ⊥
 never e = let z : ◌≡◌ {A = ℕ} 0 1 = cc in omega arith

@@ -1,9 +1,9 @@
 -- What a list of updates says of which a test keeps some keys, and what the lists of two shelves say together.
-use Rattle.std.proofs.Common.{◌≡◌, ℕ, Bool, true, false, cond, not, eqb, List, [], ◌∷◌, ◌++◌, Some, None, Option, sym, refl, ap, ◌∙◌, ap₂, eqb-true}
+use Rattle.std.proofs.Common.{◌≡◌, Bool, true, false, cond, not, List, [], ◌∷◌, ◌++◌, Some, None, Option, sym, refl, ap, ◌∙◌, ap₂, eqb-true}
 use Rattle.keys.specs.Model.{KeyModel, KeyLaws, number}
 use Rattle.trees.specs.Find.{same_key}
 use Rattle.trees.specs.Union.{both}
-use Rattle.pool.specs.Machine.{says, record_at, listed, keeping, in_both}
+use Rattle.pool.specs.Machine.{record_at, listed, keeping, in_both}
 use Rattle.pool.proofs.Counts.{any, listed_record}
 use Rattle.pool.proofs.Updates.{record_append}
 

@@ -1,8 +1,8 @@
 -- A pool whose nodes are all free holds the empty machine; and a pool in good order holds the machine of its entries.
-use Rattle.std.proofs.Common.{◌≡◌, ℕ, zero, suc, ◌+◌, ◌<◌, ◌≤◌, Bool, true, false, cond, ltb, List, [], ◌∷◌, map, length, get_or, set, replicate, Some, None, Option, sym, refl, ap, ◌∙◌, subst, add-one, arith, length-set, get_or-set_other, get_or-set_same, ltb-false, ltb-true, le-ltb, lt-ltb, eqb-true}
+use Rattle.std.proofs.Common.{◌≡◌, ℕ, zero, suc, ◌+◌, ◌<◌, ◌≤◌, Bool, true, false, cond, ltb, List, [], ◌∷◌, map, length, get_or, set, replicate, Some, None, Option, sym, refl, ap, ◌∙◌, subst, arith, length-set, get_or-set_other, get_or-set_same, ltb-false, ltb-true, le-ltb, lt-ltb, eqb-true}
 use native.Mathlib.Decide.{ℕ_discrete}
-use Rattle.keys.specs.Model.{KeyModel, KeyLaws, number}
-use Rattle.trees.specs.Tree.{Tree, one, times, uses_if_any, entries_if_any}
+use Rattle.keys.specs.Model.{KeyModel, number}
+use Rattle.trees.specs.Tree.{Tree, one, times, entries_if_any}
 use Rattle.trees.specs.Find.{same_key, lookup}
 use Rattle.trees.proofs.Distinct.{Distinct}
 use Rattle.trees.proofs.Lookup.{lookup_same_number}
@@ -10,9 +10,9 @@ use Rattle.pool.specs.declared.node.Node.{Node}
 use Rattle.pool.specs.declared.node.Node.TheVariants.{Free}
 use Rattle.pool.specs.declared.book.Book.{Book}
 use Rattle.pool.specs.Slice.{At, Chain}
-use Rattle.pool.specs.GoodOrder.{States, Arranged, GoodOrder, total, empty_row}
+use Rattle.pool.specs.GoodOrder.{GoodOrder, empty_row}
 use Rattle.trees.specs.Union.{both}
-use Rattle.pool.specs.Machine.{Machine, opened, says, record_at, list_of}
+use Rattle.pool.specs.Machine.{Machine, opened, record_at}
 use Rattle.pool.specs.Holds.{Holds}
 use Rattle.pool.proofs.Sums.{one_same, one_other}
 use Rattle.pool.proofs.Told.{map_distinct}

@@ -1,5 +1,5 @@
 -- One shelf's map moves over to another: the eight stay in good order, and the pool holds the machine with both lists rewritten.
-use Rattle.std.proofs.Common.{◌≡◌, ℕ, ◌+◌, ◌-◌, ◌*◌, ◌<◌, ◌≤◌, cond, ltb, ◌≢◌, List, [], ◌∷◌, length, get_or, set, Some, None, Option, sym, refl, ap, ◌∙◌, subst, arith, length-set, get_or-set_other, get_or-set_same}
+use Rattle.std.proofs.Common.{◌≡◌, ℕ, ◌+◌, ◌-◌, ◌*◌, ◌<◌, ◌≤◌, ltb, ◌≢◌, List, [], ◌∷◌, length, get_or, set, None, Option, sym, refl, ap, ◌∙◌, subst, arith, length-set, get_or-set_other, get_or-set_same}
 use native.Mathlib.Decide.{ℕ_discrete}
 use Rattle.keys.specs.Model.{KeyModel, KeyLaws}
 use Rattle.trees.specs.Tree.{Tree, times, uses_if_any, size_if_any, entries_if_any}
@@ -9,9 +9,9 @@ use Rattle.pool.specs.declared.node.Node.{Node}
 use Rattle.pool.specs.declared.account.Account.{Account}
 use Rattle.pool.specs.declared.shelf.Shelf.{Shelf}
 use Rattle.pool.specs.declared.book.Book.{Book}
-use Rattle.pool.specs.Slice.{At, StandsIfAny, Chain}
+use Rattle.pool.specs.Slice.{Chain}
 use Rattle.pool.specs.GoodOrder.{States, Arranged, total, empty_row}
-use Rattle.pool.specs.Machine.{Machine, list_of, moved_over, record_at}
+use Rattle.pool.specs.Machine.{Machine, moved_over, record_at}
 use Rattle.pool.specs.Holds.{Holds}
 use Rattle.pool.specs.Walks.{BesideBoth, Left}
 use Rattle.pool.specs.Books.{keys_after, SettledOver}

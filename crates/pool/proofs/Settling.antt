@@ -1,7 +1,7 @@
 -- Once the book is settled: rows of other shelves are as they were, and the pool holds the machine with one list rewritten.
-use Rattle.std.proofs.Common.{◌≡◌, ℕ, ◌+◌, ◌<◌, List, [], ◌∷◌, length, get_or, set, None, Option, sym, refl, ap, ◌∙◌, get_or-set_other}
+use Rattle.std.proofs.Common.{◌≡◌, ℕ, ◌+◌, ◌<◌, List, [], ◌∷◌, length, get_or, set, None, Option, ap, ◌∙◌, get_or-set_other}
 use Rattle.keys.specs.Model.{KeyModel, KeyLaws}
-use Rattle.trees.specs.Tree.{Tree, times, uses_if_any, entries_if_any}
+use Rattle.trees.specs.Tree.{times, uses_if_any}
 use Rattle.pool.specs.declared.node.Node.{Node}
 use Rattle.pool.specs.declared.account.Account.{Account}
 use Rattle.pool.specs.declared.shelf.Shelf.{Shelf}
@@ -10,7 +10,7 @@ use Rattle.pool.specs.GoodOrder.{empty_row}
 use Rattle.pool.specs.Machine.{Machine, rewritten, record_at}
 use Rattle.pool.specs.Holds.{Holds}
 use Rattle.pool.specs.Walks.{Left}
-use Rattle.pool.specs.Books.{OtherRowsSame, Settled, keys_after}
+use Rattle.pool.specs.Books.{OtherRowsSame, Settled}
 use Rattle.pool.proofs.After.{keys_counted, holds_after}
 
 pub others_same : (book book' : Book) (s : ℕ) (row : Shelf) → book'.shelves ≡ set book.shelves s row → OtherRowsSame book book' (s ∷ [])

@@ -1,5 +1,5 @@
 -- What the book states is what every machine held says.
-use Rattle.std.proofs.Common.{◌≡◌, ℕ, suc, ◌+◌, ◌-◌, ◌*◌, ◌<◌, ◌≤◌, Bool, true, false, cond, List, [], ◌∷◌, length, get_or, Some, None, Option, sym, refl, ap, ◌∙◌, arith}
+use Rattle.std.proofs.Common.{◌≡◌, ℕ, suc, ◌+◌, ◌<◌, List, [], ◌∷◌, length, get_or, Some, None, Option, sym, refl, ap, ◌∙◌, arith}
 use Rattle.keys.specs.Model.{KeyModel, KeyLaws}
 use Rattle.trees.specs.Tree.{Tree, entries_if_any, size_if_any}
 use Rattle.trees.specs.Order.{OrderedIfAny}

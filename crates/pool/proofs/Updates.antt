@@ -1,7 +1,7 @@
 -- What a list of updates says once an update is added or a key is dropped.
-use Rattle.std.proofs.Common.{◌≡◌, ℕ, Bool, true, false, cond, eqb, List, [], ◌∷◌, ◌++◌, Some, None, Option, sym, refl, ap, ◌∙◌, ne_eqb, eqb-true}
+use Rattle.std.proofs.Common.{◌≡◌, Bool, true, false, cond, eqb, List, [], ◌∷◌, ◌++◌, Some, None, Option, sym, refl, ap, ◌∙◌, ne_eqb, eqb-true}
 use borrow.Author.Tests.{eqb-false}
-use Rattle.keys.specs.Model.{KeyModel, KeyLaws, number}
+use Rattle.keys.specs.Model.{KeyModel, number}
 use Rattle.trees.specs.Find.{same_key}
 use Rattle.trees.specs.Union.{both}
 use Rattle.pool.specs.Machine.{says, record_at, dropped}

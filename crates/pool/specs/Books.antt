@@ -1,5 +1,5 @@
 -- Rows of the book, and what a refusal is called outside.
-use Rattle.std.specs.Prelude.{◌≡◌, ℕ, ◌+◌, ◌-◌, ◌*◌, ◌/◌, ◌<◌, ◌≤◌, min, List, [], ◌∷◌, get_or, set, Some, None, Option, ◌≢◌, slice_index_or, slice_set}
+use Rattle.std.specs.Prelude.{◌≡◌, ℕ, ◌+◌, ◌-◌, ◌*◌, ◌/◌, ◌≤◌, min, List, [], ◌∷◌, get_or, set, Some, None, Option, ◌≢◌, slice_index_or, slice_set}
 use Rattle.causes.specs.declared.cause.Cause.{Cause}
 use Rattle.causes.specs.declared.cause.Cause.TheVariants.{TooManyNodes, NoSuchShelf, OutOfOrder, TooFewNodes}
 use Rattle.pool.specs.declared.account.Account.{Account}

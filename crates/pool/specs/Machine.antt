@@ -1,6 +1,6 @@
 -- The plain machine: what every call means. It knows no nodes: a capacity, and for each of eight shelves the list of
 -- updates (key, record) that it heard. It is fed the calls and their arguments alone.
-use Rattle.std.specs.Prelude.{◌≡◌, ℕ, ◌+◌, ◌-◌, ◌*◌, Bool, true, false, cond, not, List, [], ◌∷◌, ◌++◌, replicate, Some, None, Option, ◌==◌, nat_le, nat_lt, slice_index_or, slice_set}
+use Rattle.std.specs.Prelude.{ℕ, ◌+◌, ◌-◌, ◌*◌, Bool, true, false, cond, not, List, [], ◌∷◌, ◌++◌, replicate, Some, None, Option, ◌==◌, nat_le, nat_lt, slice_index_or, slice_set}
 use Rattle.std.specs.Option.{option_map}
 use Rattle.keys.specs.Model.{KeyModel, number}
 use Rattle.trees.specs.Find.{same_key, after}

@@ -1,5 +1,5 @@
 -- What opening a pool promises.
-use Rattle.std.specs.Prelude.{◌≡◌, ℕ, ◌<◌, ◌≤◌, List, length, Ok, Err, Result}
+use Rattle.std.specs.Prelude.{◌≡◌, ◌<◌, ◌≤◌, List, length, Ok, Err, Result}
 use Rattle.keys.specs.Model.{KeyModel}
 use Rattle.pool.specs.declared.node.Node.{Node}
 use Rattle.pool.specs.declared.book.Book.{Book}

@@ -1,6 +1,6 @@
 -- What every call promises, by its answer, for all inputs: one case for each variant. The number beside a refusal is its
 -- cause's. `named` lists the shelves that the call names.
-use Rattle.std.specs.Prelude.{◌≡◌, ℕ, ◌<◌, ◌≤◌, Bool, true, false, List, [], ◌∷◌, length, Ok, Err, Result}
+use Rattle.std.specs.Prelude.{◌≡◌, ℕ, ◌<◌, Bool, true, false, List, [], ◌∷◌, length, Ok, Err, Result}
 use Rattle.keys.specs.Model.{KeyModel}
 use Rattle.pool.specs.declared.node.Node.{Node}
 use Rattle.pool.specs.declared.book.Book.{Book}

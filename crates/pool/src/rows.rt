@@ -42,16 +42,6 @@ fn nodes_of(keys: u16) -> u32
     (2 * keys as u32).saturating_sub(1)
 }
 
-// The number of keys after a call: a map of k keys has 2 k - 1 nodes, and what is free was used before or is used now.
-fn keys_after(keys: u16, free: u16, free_now: u16) -> u16
-    ensures counted_by_nodes { result ≡ keys_after keys free free_now }
-{
-    let nodes = (2 * keys as u32).saturating_sub(1) + free as u32;
-    let used = nodes.saturating_sub(free_now as u32);
-    let count = (used + 1) / 2;
-    count.min(MOST_NODES as u32) as u16
-}
-
 // The number of keys after a call that moved a map over: `moved` are the nodes of that map, which may be used now too.
 fn keys_after_move(keys: u16, free: u16, moved: u32, free_now: u16) -> u16
     requires not_too_many { moved ≤ 900000 }
@@ -61,6 +51,13 @@ fn keys_after_move(keys: u16, free: u16, moved: u32, free_now: u16) -> u16
     let used = nodes.saturating_sub(free_now as u32);
     let count = (used + 1) / 2;
     count.min(MOST_NODES as u32) as u16
+}
+
+// The number of keys after a call: a map of k keys has 2 k - 1 nodes, and what is free was used before or is used now.
+fn keys_after(keys: u16, free: u16, free_now: u16) -> u16
+    ensures counted_by_nodes { result ≡ keys_after keys free free_now }
+{
+    keys_after_move(keys, free, 0, free_now)
 }
 
 impl Book {
@@ -90,8 +87,8 @@ impl Book {
     /// Settles the book after a call that moved the map of the shelf `from` over to the shelf `into`: the account that
     /// the call left, the row of `into`, and an empty row for `from`. No other row changes; a shelf that there is not
     /// changes nothing.
-    pub fn settle_over(&mut self, into: u8, from: u8, root: Option<u16>, account: Account)
-        ensures rows_and_account_settled { into < 8 → from < 8 → SettledOver self.old self.new into from root account }
+    pub fn settle_over(&mut self, into: u8, from: u8, root: Option<u16>, left: Account)
+        ensures rows_and_account_settled { into < 8 → from < 8 → SettledOver self.old self.new into from root left }
         ensures other_rows_unchanged { OtherRowsSame self.old self.new (into ∷ (from ∷ [])) }
         ensures no_shelf_changes_nothing { (8 ≤ into → self.new ≡ self.old) × (8 ≤ from → self.new ≡ self.old) }
     {
@@ -103,8 +100,8 @@ impl Book {
         }
         let before = self.shelves[into as usize];
         let over = nodes_of(self.shelves[from as usize].keys);
-        let keys = keys_after_move(before.keys, self.account.free, over, account.free);
-        self.account = account;
+        let keys = keys_after_move(before.keys, self.account.free, over, left.free);
+        self.account = left;
         self.shelves[from as usize] = EMPTY;
         self.shelves[into as usize] = Shelf { root, keys };
     }

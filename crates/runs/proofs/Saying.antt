@@ -1,7 +1,7 @@
 -- From what each call promises, by its answer, to what the machine says.
-use Rattle.std.proofs.Common.{◌≡◌, ℕ, ◌<◌, ◌≤◌, Bool, true, false, cond, ltb, List, [], ◌∷◌, Ok, Err, Result, sym, refl, ap, ◌∙◌, subst, subst₂, arith, ltb-false, ltb-true, lt-ltb}
+use Rattle.std.proofs.Common.{◌≡◌, ℕ, ◌<◌, Bool, true, false, cond, ltb, List, [], ◌∷◌, Ok, Err, sym, refl, ap, ◌∙◌, subst, subst₂, arith, ltb-true, lt-ltb}
 use Rattle.keys.specs.Model.{KeyModel}
-use Rattle.causes.specs.declared.cause.Cause.TheVariants.{NoSuchShelf, OutOfOrder, TooFewNodes}
+use Rattle.causes.specs.declared.cause.Cause.TheVariants.{NoSuchShelf, TooFewNodes}
 use Rattle.pool.specs.declared.node.Node.{Node}
 use Rattle.pool.specs.declared.book.Book.{Book}
 use Rattle.pool.specs.declared.refusal.WalkRefusal.{WalkRefusal}
@@ -13,11 +13,10 @@ use Rattle.pool.specs.declared.refusal.CountRefusal.TheVariants as count
 use Rattle.pool.specs.Books.{count_cause, walk_cause, grow_cause}
 use Rattle.pool.specs.Machine.{Machine, list_of, count_of}
 use Rattle.pool.specs.Holds.{Holds}
-use Rattle.pool.specs.Promises.{Known, Asked, Called, Grown}
+use Rattle.pool.specs.Promises.{Asked, Called, Grown}
 use Rattle.maps.specs.Counts.{Counted}
 use Rattle.runs.specs.Runs.{on_shelf, from_shelf, said, step}
 use Rattle.runs.specs.declared.call.Call.{Call}
-use Rattle.causes.specs.declared.cause.Cause.{Cause}
 use Rattle.runs.specs.declared.answer.Answer.{Answer}
 use Rattle.runs.specs.declared.answer.Answer.TheVariants.{Done, Number, Refused}
 

@@ -1,7 +1,6 @@
 -- Calls as data: what the machine answers to each, and the machine after it; and the same of a list of calls.
 use Rattle.std.specs.Prelude.{◌≡◌, ℕ, ◌<◌, ◌≤◌, cond, List, [], ◌∷◌, ◌++◌, length, drop, Ok, Err, Result, nat_lt}
 use Rattle.keys.specs.Model.{KeyModel}
-use Rattle.causes.specs.declared.cause.Cause.{Cause}
 use Rattle.causes.specs.declared.cause.Cause.TheVariants.{NoSuchShelf, TooFewNodes}
 use Rattle.pool.specs.declared.node.Node.{Node}
 use Rattle.pool.specs.declared.book.Book.{Book}

@@ -1,9 +1,9 @@
 -- Numbers, digit by digit, and whether they are below a limit.
-use Rattle.std.proofs.Common.{◌≡◌, ℕ, suc, ◌+◌, ◌-◌, ◌*◌, ◌<◌, ◌≤◌, Bool, true, false, cond, List, [], ◌∷◌, length, get_or, drop, Some, None, Option, sym, refl, ap, ◌∙◌, arith}
+use Rattle.std.proofs.Common.{◌≡◌, ℕ, ◌+◌, ◌-◌, ◌*◌, ◌<◌, ◌≤◌, Bool, true, false, cond, List, [], ◌∷◌, length, get_or, drop, Some, None, refl, ◌∙◌, arith}
 use native.Mathlib.Bridge.{le_prop}
 use native.Mathlib.Decide.{dec_lt}
 use Rattle.std.proofs.lemmas.List.{at_drop_more, at_drop_all}
-use Rattle.script.specs.Numerals.{digit, numeral, Below, tested, below, plain}
+use Rattle.script.specs.Numerals.{digit, numeral, tested, below}
 
 module _ (n : ℕ) (word : List ℕ) (i : ℕ) where
   pub numeral_more : i < length word → digit (get_or word i 0) ≡ true → numeral n (drop i word) ≡ numeral (n * 10 + (get_or word i 0 - 48)) (drop (i + 1) word)

@@ -1,5 +1,5 @@
 -- From a number that was read to the field that it is a part of.
-use Rattle.std.proofs.Common.{◌≡◌, ℕ, ◌^◌, ◌<◌, List, [], ◌∷◌, Some, None, Option, sym, refl, ap, ◌∙◌, subst, arith}
+use Rattle.std.proofs.Common.{◌≡◌, ℕ, ◌^◌, ◌<◌, List, [], ◌∷◌, Some, None, Option, refl, ap, subst, arith}
 use native.Mathlib.Bridge.{le_prop}
 use Rattle.script.specs.Numerals.{Below, numeral, below, plain}
 use Rattle.script.specs.Readings.{return, following, given, number, value}

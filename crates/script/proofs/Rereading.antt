@@ -1,5 +1,5 @@
 -- A call that is printed as its line reads back.
-use Rattle.std.proofs.Common.{◌≡◌, ℕ, ◌+◌, ◌-◌, ◌*◌, ◌^◌, ◌<◌, ◌≤◌, Bool, true, false, cond, ◌&&◌, List, [], ◌∷◌, ◌++◌, length, Some, None, codes, decimal, Option, sym, refl, ap, ◌∙◌, arith, rules}
+use Rattle.std.proofs.Common.{◌≡◌, ℕ, ◌+◌, ◌-◌, ◌*◌, ◌^◌, ◌<◌, ◌≤◌, true, List, [], ◌∷◌, length, Some, None, decimal, refl, ap, ◌∙◌, arith, rules}
 use Rattle.std.specs.Char.{is_ascii_digit}
 use Rattle.std.specs.List.{AllByRecursion as All}
 use Rattle.std.specs.Str.{all_ascii_digits}
@@ -11,7 +11,7 @@ use Rattle.script.specs.declared.call.Call.{Call}
 use Rattle.script.specs.declared.call.Call.TheVariants.{Open, Put, Look, Remove, Next, List as Listing, Clear, Count, Free}
 use Rattle.script.specs.declared.line.Line.{Line}
 use Rattle.script.specs.Forms.{meaning}
-use Rattle.script.specs.Numerals.{digit, numeral, below}
+use Rattle.script.specs.Numerals.{numeral}
 use Rattle.script.specs.Agreement.{Fitting, Agrees}
 use Rattle.script.specs.Printing.{call_words}
 use Rattle.script.specs.Readings.{number, value, shelf, nodes}

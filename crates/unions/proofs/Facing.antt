@@ -1,5 +1,5 @@
 -- What the first nodes of a job's two trees tell of the trees.
-use Rattle.std.proofs.Common.{◌≡◌, ℕ, ◌+◌, ◌<◌, ◌≤◌, Bool, true, false, cond, List, [], ◌∷◌, sym, refl, ap, ◌∙◌, subst, arith}
+use Rattle.std.proofs.Common.{◌≡◌, ℕ, ◌+◌, ◌<◌, ◌≤◌, Bool, List, sym, ap, ◌∙◌, subst, arith}
 use Rattle.keys.specs.Model.{KeyModel}
 use Rattle.trees.specs.Tree.{Tree, leaf, branch, root, key, uses, AllKeys}
 use Rattle.trees.specs.Order.{Agree, Side, Ordered, place}
@@ -7,7 +7,6 @@ use Rattle.trees.proofs.AllKeys.{all_keys_both, some_key}
 use Rattle.trees.proofs.Move.{uses_root}
 use Rattle.trees.proofs.Order.{keys_agree, side_agrees}
 use Rattle.pool.specs.declared.node.Node.{Node}
-use Rattle.pool.specs.declared.node.Node.TheVariants.{Free, Leaf, Branch}
 use Rattle.pool.specs.Slice.{At, Stands}
 use Rattle.pool.proofs.Reading.{one_node}
 use Rattle.unions.specs.Meets.{Shows, Vacant}

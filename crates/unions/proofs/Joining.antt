@@ -1,7 +1,7 @@
 -- The union of two maps, from the work on their trees.
-use Rattle.std.proofs.Common.{◌≡◌, ℕ, ◌+◌, ◌<◌, ◌≤◌, List, [], ◌∷◌, length, Some, None, Option, sym, refl, ap, ◌∙◌, arith}
+use Rattle.std.proofs.Common.{◌≡◌, ℕ, ◌+◌, ◌≤◌, List, [], ◌∷◌, Some, sym, ap, ◌∙◌, arith}
 use Rattle.keys.specs.Model.{KeyModel}
-use Rattle.trees.specs.Tree.{Tree, root, key, uses, uses_if_any, times}
+use Rattle.trees.specs.Tree.{Tree, root, key, uses_if_any, times}
 use Rattle.trees.proofs.Order.{agree_none}
 use Rattle.pool.specs.declared.node.Node.{Node}
 use Rattle.pool.specs.declared.account.Account.{Account}

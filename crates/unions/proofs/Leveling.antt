@@ -1,16 +1,15 @@
 -- A step of two trees at one place.
-use Rattle.std.proofs.Common.{◌≡◌, ℕ, ◌+◌, ◌<◌, ◌≤◌, Bool, true, false, List, [], ◌∷◌, length, set, sym, refl, ap, ◌∙◌, subst, arith, length-set}
+use Rattle.std.proofs.Common.{◌≡◌, ℕ, ◌+◌, ◌≤◌, Bool, true, false, List, [], ◌∷◌, set, sym, refl, ap, ◌∙◌, subst, arith}
 use Rattle.keys.specs.Model.{KeyModel, KeyLaws}
-use Rattle.trees.specs.Tree.{Tree, leaf, branch, root, key, one, times, size, uses, AllKeys}
+use Rattle.trees.specs.Tree.{Tree, leaf, branch, root, key, one, uses}
 use Rattle.trees.specs.Order.{Agree, Side, Ordered, place}
-use Rattle.trees.specs.Union.{Union}
 use Rattle.trees.proofs.AllKeys.{all_keys_weaker}
 use Rattle.trees.proofs.Move.{one_same}
 use Rattle.trees.proofs.Union.{union_level, union_leaf}
 use Rattle.pool.specs.declared.node.Node.{Node}
 use Rattle.pool.specs.declared.node.Node.TheVariants.{Free, Leaf, Branch}
 use Rattle.pool.specs.declared.account.Account.{Account}
-use Rattle.pool.specs.Slice.{At, Stands, Chain}
+use Rattle.pool.specs.Slice.{At, Stands}
 use Rattle.pool.specs.Nodes.{Released}
 use Rattle.pool.proofs.Reading.{one_node, written_there, kept_elsewhere}
 use Rattle.pool.proofs.After.{stands_kept}

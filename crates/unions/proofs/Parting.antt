@@ -1,11 +1,11 @@
 -- A step whose two trees part: a branch over both takes the first tree's node, and what stood there moves to a free one.
-use Rattle.std.proofs.Common.{◌≡◌, ℕ, ◌+◌, ◌<◌, ◌≤◌, Bool, true, false, cond, not, List, [], ◌∷◌, length, set, sym, refl, ap, ◌∙◌, subst, ⊎_elim, arith, length-set}
+use Rattle.std.proofs.Common.{◌≡◌, ℕ, ◌+◌, ◌<◌, ◌≤◌, Bool, true, false, cond, not, List, [], ◌∷◌, set, sym, refl, ap, ◌∙◌, subst, ⊎_elim, arith, length-set}
 use Rattle.std.proofs.lemmas.Bool.{cases_lt}
 use Rattle.keys.specs.Model.{KeyModel}
-use Rattle.trees.specs.Tree.{Tree, branch, root, key, one, times, size, uses, move, AllKeys}
-use Rattle.trees.specs.Order.{Agree, Side, Ordered, place}
+use Rattle.trees.specs.Tree.{Tree, branch, root, key, one, uses, move}
+use Rattle.trees.specs.Order.{Agree, place}
 use Rattle.trees.specs.Union.{Union}
-use Rattle.trees.proofs.Move.{one_same, one_root, root_move, uses_move}
+use Rattle.trees.proofs.Move.{one_same, root_move, uses_move}
 use Rattle.trees.proofs.Sizes.{size_pos}
 use Rattle.trees.proofs.Order.{ordered_from_place, place_within, keys_on_side}
 use Rattle.trees.proofs.Parting.{turned_bit}
@@ -13,13 +13,13 @@ use Rattle.trees.proofs.Union.{union_apart}
 use Rattle.pool.specs.declared.node.Node.{Node}
 use Rattle.pool.specs.declared.node.Node.TheVariants.{Branch}
 use Rattle.pool.specs.declared.account.Account.{Account}
-use Rattle.pool.specs.Slice.{At, Stands, Chain}
+use Rattle.pool.specs.Slice.{At, Stands}
 use Rattle.pool.specs.Nodes.{Took}
 use Rattle.pool.proofs.Reading.{one_node, written_there, kept_elsewhere}
 use Rattle.pool.proofs.After.{stands_kept}
 use Rattle.edits.proofs.Writing.{at_same, not_one, stands_moved, chain_kept, took_first}
 use Rattle.unions.specs.declared.job.Job.{Job}
-use Rattle.unions.specs.Work.{Item, tree_uses, Each, Ready, Outcome, Work}
+use Rattle.unions.specs.Work.{Item, tree_uses, Ready, Outcome, Work}
 use Rattle.unions.specs.Steps.{Parted}
 use Rattle.unions.proofs.Working.{Advance, advance, only_none}
 use Rattle.unions.proofs.Facing.{uses_rooted, parts_later}

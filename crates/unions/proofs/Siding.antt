@@ -1,15 +1,14 @@
 -- A step in which one tree goes into a side of the other's branch.
 use Rattle.std.proofs.Common.{◌≡◌, ℕ, ◌+◌, ◌<◌, ◌≤◌, Bool, true, false, cond, List, [], ◌∷◌, length, set, sym, refl, ap, ◌∙◌, subst, arith, length-set}
 use Rattle.keys.specs.Model.{KeyModel}
-use Rattle.trees.specs.Tree.{Tree, leaf, branch, root, key, one, times, size, uses, move, AllKeys}
+use Rattle.trees.specs.Tree.{Tree, leaf, branch, root, key, one, size, uses, move, AllKeys}
 use Rattle.trees.specs.Order.{Agree, Side, Ordered, place}
-use Rattle.trees.specs.Union.{Union}
-use Rattle.trees.proofs.Move.{one_same, one_root, root_move, size_move, uses_move, all_keys_move, ordered_move}
+use Rattle.trees.proofs.Move.{one_same, root_move, size_move, uses_move, all_keys_move, ordered_move}
 use Rattle.trees.proofs.Sizes.{size_pos}
 use Rattle.trees.proofs.Order.{ordered_from_place, keys_on_side, side_keys, side_ordered}
 use Rattle.trees.proofs.Union.{union_into, union_under}
 use Rattle.pool.specs.declared.node.Node.{Node}
-use Rattle.pool.specs.declared.node.Node.TheVariants.{Branch, Leaf}
+use Rattle.pool.specs.declared.node.Node.TheVariants.{Branch}
 use Rattle.pool.specs.declared.account.Account.{Account}
 use Rattle.pool.specs.Slice.{At, Stands}
 use Rattle.pool.proofs.Reading.{one_node, written_there, kept_elsewhere}

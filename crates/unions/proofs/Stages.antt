@@ -1,5 +1,5 @@
 -- The steps of a union, from what the code's parts say of the nodes that they read and wrote.
-use Rattle.std.proofs.Common.{◌≡◌, ℕ, ◌+◌, ◌<◌, ◌≤◌, cond, List, [], ◌∷◌, length, set, Ok, Err, Result, sym, refl, ap, ◌∙◌, subst, ⊎_elim, arith, MatchResult}
+use Rattle.std.proofs.Common.{◌≡◌, ℕ, ◌+◌, ◌≤◌, cond, List, [], ◌∷◌, length, set, sym, refl, ap, ◌∙◌, subst, ⊎_elim, arith}
 use Rattle.keys.specs.Model.{KeyModel, KeyLaws}
 use Rattle.trees.specs.Tree.{Tree, leaf, branch, root, key}
 use Rattle.trees.specs.Order.{Agree, Ordered, place}
@@ -8,7 +8,6 @@ use Rattle.trees.proofs.Sizes.{size_pos}
 use Rattle.pool.specs.declared.node.Node.{Node}
 use Rattle.pool.specs.declared.node.Node.TheVariants.{Free, Leaf, Branch}
 use Rattle.pool.specs.declared.account.Account.{Account}
-use Rattle.pool.specs.declared.outoforder.OutOfOrder.{OutOfOrder}
 use Rattle.pool.specs.Slice.{At, Stands, Chain}
 use Rattle.pool.proofs.Reading.{one_node}
 use Rattle.unions.specs.declared.job.Job.{Job}

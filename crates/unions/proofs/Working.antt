@@ -1,5 +1,5 @@
 -- The work of a union: lists of items and trees, and what every step must show.
-use Rattle.std.proofs.Common.{◌≡◌, ℕ, ◌+◌, ◌-◌, ◌<◌, ◌≤◌, List, [], ◌∷◌, ◌++◌, length, sym, refl, ap, ◌∙◌, subst, arith}
+use Rattle.std.proofs.Common.{◌≡◌, ℕ, ◌+◌, ◌-◌, ◌≤◌, List, [], ◌∷◌, ◌++◌, length, sym, refl, ap, ◌∙◌, subst, arith}
 use Rattle.keys.specs.Model.{KeyModel, KeyLaws}
 use Rattle.trees.specs.Tree.{Tree, size, uses, times}
 use Rattle.trees.specs.Union.{Union}
@@ -9,7 +9,7 @@ use Rattle.pool.specs.declared.account.Account.{Account}
 use Rattle.pool.specs.Slice.{At, Stands, Chain}
 use Rattle.pool.proofs.After.{stands_kept}
 use Rattle.unions.specs.declared.job.Job.{Job}
-use Rattle.unions.specs.Work.{Item, Fit, Fits, item_uses, weight, tree_uses, Each, Ready, Outcome, Work}
+use Rattle.unions.specs.Work.{Item, Fits, item_uses, weight, tree_uses, Each, Ready, Outcome, Work}
 
 module _ {K V : Type 0} where
   -- jobs are about the same trees as long as those trees' nodes are kept

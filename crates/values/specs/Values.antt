@@ -1,7 +1,7 @@
 -- Worked values, as one theorem over the definitions that the contracts use.
 use Rattle.std.specs.Prelude.{◌≡◌, ℕ, ◌^◌, ◌<◌, [], ◌∷◌}
 use Rattle.std.proofs.Common.{lit<}
-use Rattle.keys.specs.Model.{KeyModel, number, Precedes}
+use Rattle.keys.specs.Model.{number, Precedes}
 use Rattle.keys.specs.Split.{split}
 use Rattle.keys.specs.declared.values.Word.{Word}
 use Rattle.keys.specs.declared.values.Cell.{Cell}

@@ -3,7 +3,7 @@ use Rattle.std.proofs.Common.{◌≡◌, ℕ, ◌+◌, ◌≤◌, Bool, true, fa
 use Rattle.std.specs.Option.{option_or}
 use Rattle.keys.specs.Model.{KeyModel, Precedes, number}
 use Rattle.keys.specs.Split.{split}
-use Rattle.trees.specs.Tree.{Tree, leaf, branch, entries, entries_if_any, first_entry}
+use Rattle.trees.specs.Tree.{Tree, branch, entries, entries_if_any, first_entry}
 use Rattle.trees.specs.Find.{first_after}
 use Rattle.trees.proofs.Lookup.{or_none}
 use Rattle.trees.proofs.Next.{first_after_no_bound, first_after_leaf, first_after_other_leaf, first_after_all, first_after_nothing, first_after_left, first_after_right}

@@ -1,10 +1,10 @@
 -- What the node at an index says of any tree in order there.
-use Rattle.std.proofs.Common.{◌≡◌, ℕ, ◌+◌, ◌<◌, ◌≤◌, List, length, Some, None, Option, sym, ap, subst, arith}
+use Rattle.std.proofs.Common.{◌≡◌, ℕ, ◌+◌, ◌<◌, ◌≤◌, List, length, Some, Option, sym, ap, subst, arith}
 use Rattle.keys.specs.Model.{KeyModel}
 use Rattle.trees.specs.Tree.{Tree, leaf, branch}
 use Rattle.trees.specs.Order.{Ordered}
 use Rattle.trees.proofs.Order.{ordered_lower}
-use Rattle.pool.specs.Slice.{At, Stands}
+use Rattle.pool.specs.Slice.{At}
 use Rattle.pool.specs.Walks.{Rooted}
 use Rattle.pool.specs.declared.node.Node.{Node}
 use Rattle.pool.specs.declared.node.Node.TheVariants.{Free, Branch}

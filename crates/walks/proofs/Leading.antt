@@ -1,11 +1,10 @@
 -- The search for a key narrows from tree to tree.
-use Rattle.std.proofs.Common.{◌≡◌, ℕ, ◌+◌, Bool, true, false, cond, List, [], ◌∷◌, Ok, Err, Result, sym, refl, ◌∙◌, subst, MatchResult}
+use Rattle.std.proofs.Common.{◌≡◌, ℕ, ◌+◌, Bool, true, false, cond, List, [], ◌∷◌, Ok, sym, refl, ◌∙◌, subst}
 use Rattle.keys.specs.Model.{KeyModel}
-use Rattle.trees.specs.Tree.{Tree, leaf, branch, entries}
+use Rattle.trees.specs.Tree.{Tree, entries}
 use Rattle.trees.specs.Find.{lookup}
 use Rattle.trees.proofs.Lookup.{lookup_side}
 use Rattle.pool.specs.declared.node.Node.{Node}
-use Rattle.pool.specs.declared.outoforder.OutOfOrder.{OutOfOrder}
 use Rattle.walks.specs.declared.step.Step.{Step}
 use Rattle.walks.specs.declared.step.Step.TheVariants.{Leaf, Branch}
 use Rattle.walks.specs.Leads.{Stepped, NoneGrows, Grows, FindsAlike}

@@ -1,4 +1,4 @@
-use Rattle.std.proofs.Common.{ℕ, ◌+◌, None, Option, MatchResult}
+use Rattle.std.proofs.Common.{◌+◌, None, Option, MatchResult}
 use Rattle.trees.specs.Tree.{Tree, uses_if_any, times}
 use Rattle.pool.specs.Walks.{Beside, Left}
 use Rattle.pool.proofs.Standing.{rooted_tree}

@@ -1,10 +1,10 @@
-use Rattle.std.proofs.Common.{◌≡◌, ℕ, ◌-◌, ◌<◌, ◌≤◌, sym, ap, ◌∙◌, subst, arith}
+use Rattle.std.proofs.Common.{◌≡◌, ℕ, ◌-◌, sym, ap, ◌∙◌, subst, arith}
 use lib.Bits.{bit_xor}
 use lib.Count.{count_leading_zeros}
 use Rattle.keys.specs.Model.{FirstDifference}
 use Rattle.keys.specs.Split.{split}
 use Rattle.keys.specs.Binary.{binary_same}
-use Rattle.keys.proofs.Differences.{Led, led, xor_same}
+use Rattle.keys.proofs.Differences.{led, xor_same}
 use Rattle.keys.proofs.Splits.{split_refl, first_is_split}
 use Rattle.keys.proofs.compare.highest_bit_is_first_difference.Goals as goal
 

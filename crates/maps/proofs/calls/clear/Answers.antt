@@ -1,4 +1,4 @@
-use Rattle.std.proofs.Common.{get_or, None, sym, refl, subst}
+use Rattle.std.proofs.Common.{get_or, None, refl}
 use Rattle.std.proofs.lemmas.Result.{err_from_is_err_and}
 use Rattle.keys.proofs.Laws.{key_laws}
 use Rattle.pool.proofs.After.{beside_at}

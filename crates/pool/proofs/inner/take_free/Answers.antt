@@ -1,4 +1,3 @@
-use Rattle.std.proofs.Common.{sym}
 use Rattle.pool.proofs.Reading.{one_node}
 use Rattle.pool.proofs.inner.take_free.Goals as goal
 

@@ -1,5 +1,5 @@
-use Rattle.std.proofs.Common.{◌≡◌, ◌<◌, sym, ap, ◌∙◌}
-use Rattle.pool.specs.Machine.{list_of, record_at, next_of, count_of, put_fits, after_put, after_remove, after_clear}
+use Rattle.std.proofs.Common.{ap, ◌∙◌}
+use Rattle.pool.specs.Machine.{list_of, record_at, next_of, put_fits, after_put, after_remove, after_clear}
 use Rattle.runs.specs.declared.answer.Answer.TheVariants.{Done, Found, Entry, Number, Refused}
 use Rattle.runs.proofs.Saying.{asked_ok, asked_err, called_ok, called_err, grown_ok, grown_err, counted_ok, counted_err, at_call}
 use Rattle.runs.proofs.playing.play.Goals as goal

@@ -1,6 +1,5 @@
-use Rattle.std.proofs.Common.{◌≡◌, ℕ, ◌+◌, ◌<◌, ◌≤◌, List, [], ◌∷◌, ◌++◌, length, get_or, take, drop, set, sym, refl, ap, ◌∙◌, append_assoc, append-nil, arith, drop-set-lt}
+use Rattle.std.proofs.Common.{◌≡◌, ◌+◌, ◌<◌, [], ◌∷◌, ◌++◌, length, get_or, take, drop, set, sym, ap, ◌∙◌, append_assoc, append-nil, arith, drop-set-lt}
 use Rattle.std.proofs.lemmas.List.{at_drop_more, at_drop_all, take_more_set, take-append-drop, drop-drop}
-use Rattle.pool.specs.Holds.{Holds}
 use Rattle.runs.specs.Runs.{run, told, step, said}
 use Rattle.runs.proofs.running.play_each.Goals as goal
 

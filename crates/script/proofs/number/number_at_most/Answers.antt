@@ -1,5 +1,5 @@
-use Rattle.std.proofs.Common.{◌≡◌, ℕ, suc, ◌+◌, ◌-◌, ◌*◌, ◌<◌, ◌≤◌, get_or, drop, Some, None, Option, sym, ap, ◌∙◌, arith}
-use Rattle.script.specs.Numerals.{below, numeral, plain}
+use Rattle.std.proofs.Common.{suc, ◌+◌, ◌-◌, ◌*◌, get_or, drop, sym, ◌∙◌, arith}
+use Rattle.script.specs.Numerals.{below}
 use Rattle.script.proofs.Digits.{numeral_more, numeral_other, numeral_past, below_fits, below_over}
 use Rattle.script.proofs.number.number_at_most.Goals as goal
 

@@ -1,4 +1,4 @@
-use Rattle.std.proofs.Common.{◌≡◌, Ok, Err, Result, subst, MatchResult}
+use Rattle.std.proofs.Common.{Ok, Err, Result, subst, MatchResult}
 use Rattle.std.proofs.lemmas.Result.{MatchResult-from_err}
 use Rattle.keys.proofs.Laws.{key_laws}
 use Rattle.unions.specs.declared.meeting.Meeting.{Meeting}

@@ -1,6 +1,6 @@
-use Rattle.std.proofs.Common.{◌≡◌, ℕ, ◌+◌, ◌≤◌, Some, None, Option, sym, refl, ◌∙◌, arith}
+use Rattle.std.proofs.Common.{ℕ, ◌+◌, Some, Option, arith}
 use Rattle.trees.specs.Tree.{Tree, uses_if_any, times}
-use Rattle.pool.specs.Walks.{Rooted, BesideBoth, Left}
+use Rattle.pool.specs.Walks.{BesideBoth, Left}
 use Rattle.pool.proofs.Standing.{rooted_tree}
 use Rattle.unions.specs.Unites.{in_either}
 use Rattle.unions.proofs.Joining.{united_left, united_never}

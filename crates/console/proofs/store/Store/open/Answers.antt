@@ -1,4 +1,4 @@
-use Rattle.std.proofs.Common.{◌≡◌, ℕ, ◌≤◌, length, sym, subst, subst₂, arith}
+use Rattle.std.proofs.Common.{◌≡◌, ◌≤◌, length, sym, subst₂, arith}
 use Rattle.console.proofs.store.Store.open.Goals as goal
 use Rattle.console.specs.Keeping.{lamps_joined}
 use Rattle.keys.specs.contracts.word.WordKeyKind.TheImpl.{ghosts as word-kind}

@@ -1,4 +1,4 @@
-use Rattle.std.proofs.Common.{◌≡◌, ℕ, ◌<◌, Bool, cond, ap, ◌∙◌, arith}
+use Rattle.std.proofs.Common.{Bool, cond, ap, ◌∙◌, arith}
 use Rattle.keys.specs.Binary.{binary_none, binary_next, binary_room, byte_weight, byte_le}
 use Rattle.keys.proofs.kind.KeyKind.number.Goals as goal
 

@@ -1,4 +1,4 @@
-use Rattle.std.proofs.Common.{codes, sym, ◌∙◌, subst, arith}
+use Rattle.std.proofs.Common.{codes, ◌∙◌, arith}
 use Rattle.script.proofs.Names.{other_name, no_text_no_name}
 use Rattle.script.proofs.words.Words.call.Goals as goal
 

@@ -1,4 +1,3 @@
-use Rattle.std.proofs.Common.{ap, ◌∙◌}
 use Rattle.script.specs.Values.{key}
 use Rattle.script.proofs.Readers.{number_none, key_read}
 use Rattle.script.proofs.words.Words.key.Goals as goal

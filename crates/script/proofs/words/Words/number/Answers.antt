@@ -1,6 +1,6 @@
 use Rattle.std.proofs.Common.{suc, ap, ◌∙◌}
 use Rattle.script.specs.Cursor.{left}
-use Rattle.script.specs.Readings.{given, value}
+use Rattle.script.specs.Readings.{value}
 use Rattle.script.proofs.Readers.{value_of, value_none}
 use Rattle.script.proofs.words.Words.number.Goals as goal
 
