@@ -45,11 +45,11 @@ impl KeyKind for Cell {
 
     ghost bit = { cell_bit };
 
-    ghost coded = { first_of (Prim.search rules, Prim.grind (arith, Self.row.coded.inj)) };
+    ghost coded = { Prim.search rules };
 
-    ghost places_bounded = { first_of (Prim.search rules, Prim.grind (arith, Self.row.coded.inj)) };
+    ghost places_bounded = { Prim.search rules };
 
-    ghost zero_beyond = { first_of (Prim.search rules, Prim.grind (arith, Self.row.coded.inj)) };
+    ghost zero_beyond = { Prim.search rules };
 
     ghost same_bits = { cells_same };
 

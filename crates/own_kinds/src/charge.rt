@@ -21,13 +21,13 @@ impl RecordKind for Charge {
 
     ghost bytes = { λ c. c.percent ∷ [] };
 
-    ghost coded = { first_of (Prim.search rules, Prim.grind (arith, Self.row.coded.inj)) };
+    ghost coded = { Prim.search rules };
 
-    ghost bounded = { first_of (Prim.search rules, Prim.grind (arith, Self.row.coded.inj)) };
+    ghost bounded = { Prim.search rules };
 
-    ghost sized = { first_of (Prim.search rules, Prim.grind (arith, Self.row.coded.inj)) };
+    ghost sized = { Prim.search rules };
 
-    ghost octets = { first_of (Prim.search rules, Prim.grind (arith, Self.row.coded.inj)) };
+    ghost octets = { Prim.search rules };
 
     ghost distinct = { λ w a b e. charge_same a b (cc) };
 
@@ -61,11 +61,11 @@ impl RecordKind for Charge {
 impl Joining for Charge {
     ghost joined = { lower };
 
-    ghost idempotent = { first_of (Prim.search rules, Prim.grind (arith, Self.row.coded.inj)) };
+    ghost idempotent = { Prim.search rules };
 
     ghost commutative = { λ a b. either a b (ltb b.percent a.percent) (ltb a.percent b.percent) refl refl };
 
-    ghost associative = { first_of (Prim.search rules, Prim.grind (arith, Self.row.coded.inj)) };
+    ghost associative = { Prim.search rules };
 
     fn join(self, other: Charge) -> Charge {
         if other.percent < self.percent {

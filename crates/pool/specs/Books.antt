@@ -1,5 +1,5 @@
 -- Rows of the book, and what a refusal is called outside.
-use Rattle.std.specs.Prelude.{◌≡◌, ℕ, ◌+◌, ◌-◌, ◌*◌, ◌/◌, ◌≤◌, min, List, [], ◌∷◌, get_or, set, Some, None, Option, ◌≢◌, slice_index_or, slice_set}
+use Rattle.std.specs.Prelude.{◌≡◌, ℕ, ◌+◌, ◌-◌, ◌*◌, ◌/◌, ◌≤◌, min, List, [], ◌∷◌, get_or, Some, None, Option, ◌≢◌, slice_index_or, slice_set}
 use Rattle.causes.specs.declared.cause.Cause.{Cause}
 use Rattle.causes.specs.declared.cause.Cause.TheVariants.{TooManyNodes, NoSuchShelf, OutOfOrder, TooFewNodes}
 use Rattle.pool.specs.declared.account.Account.{Account}
@@ -31,14 +31,14 @@ keys_after keys free free' = min (((2 * keys - 1) + free - free' + 1) / 2) 4096
 -- now and how many keys it has
 pub record Settled (before after : Book) (shelf : ℕ) (root : Option ℕ) (left : Account) : Type 0 where
   pub account : after.account ≡ left
-  pub rows : after.shelves ≡ set before.shelves shelf
+  pub rows : after.shelves ≡ slice_set before.shelves shelf
       (record { root = root; keys = keys_after (get_or before.shelves shelf empty_row).keys before.account.free left.free })
 
 -- the book after a call that moved one shelf's map over to another: the shelf `from` is empty, and the row of `into` states
 -- the map that the nodes of both are now
 pub record SettledOver (before after : Book) (into from : ℕ) (root : Option ℕ) (left : Account) : Type 0 where
   pub account : after.account ≡ left
-  pub rows : after.shelves ≡ set (slice_set before.shelves from empty_row) into (record {
+  pub rows : after.shelves ≡ slice_set (slice_set before.shelves from empty_row) into (record {
     root = root;
     keys = keys_after (get_or before.shelves into empty_row).keys (before.account.free + (2 * (get_or before.shelves from empty_row).keys - 1)) left.free;
   })

@@ -22,9 +22,9 @@ impl RecordKind for Hours {
 
     ghost bytes = { λ h. big_endian 4 h.count };
 
-    ghost coded = { first_of (Prim.search rules, Prim.grind (arith, Self.row.coded.inj)) };
+    ghost coded = { Prim.search rules };
 
-    ghost bounded = { first_of (Prim.search rules, Prim.grind (arith, Self.row.coded.inj)) };
+    ghost bounded = { Prim.search rules };
 
     ghost sized = { λ h a. length_big_endian 4 a.count };
 
@@ -56,11 +56,11 @@ impl RecordKind for Hours {
 impl Joining for Hours {
     ghost joined = { more_hours };
 
-    ghost idempotent = { first_of (Prim.search rules, Prim.grind (arith, Self.row.coded.inj)) };
+    ghost idempotent = { Prim.search rules };
 
     ghost commutative = { larger_comm (λ h. h.count) hours_same };
 
-    ghost associative = { first_of (Prim.search rules, Prim.grind (arith, Self.row.coded.inj)) };
+    ghost associative = { Prim.search rules };
 
     fn join(self, other: Hours) -> Hours {
         if self.count < other.count {

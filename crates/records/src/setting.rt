@@ -41,9 +41,9 @@ impl RecordKind for Setting {
 
     ghost bytes = { λ s. big_endian 4 s.stamp ++ (big_endian 2 s.source ++ big_endian 2 s.word) };
 
-    ghost coded = { first_of (Prim.search rules, Prim.grind (arith, Self.row.coded.inj)) };
+    ghost coded = { Prim.search rules };
 
-    ghost bounded = { first_of (Prim.search rules, Prim.grind (arith, Self.row.coded.inj)) };
+    ghost bounded = { Prim.search rules };
 
     ghost sized = { λ h s. simp (length-append, length_big_endian) };
 
@@ -95,11 +95,11 @@ impl RecordKind for Setting {
 impl Joining for Setting {
     ghost joined = { later_setting };
 
-    ghost idempotent = { first_of (Prim.search rules, Prim.grind (arith, Self.row.coded.inj)) };
+    ghost idempotent = { Prim.search rules };
 
     ghost commutative = { larger_comm setting_rank same_from_rank };
 
-    ghost associative = { first_of (Prim.search rules, Prim.grind (arith, Self.row.coded.inj)) };
+    ghost associative = { Prim.search rules };
 
     fn join(self, other: Setting) -> Setting
         ensures joins { result ≡ later_setting self other }

@@ -24,9 +24,9 @@ impl RecordKind for Tags {
 
     ghost bytes = { λ t. big_endian 2 t.bits };
 
-    ghost coded = { first_of (Prim.search rules, Prim.grind (arith, Self.row.coded.inj)) };
+    ghost coded = { Prim.search rules };
 
-    ghost bounded = { first_of (Prim.search rules, Prim.grind (arith, Self.row.coded.inj)) };
+    ghost bounded = { Prim.search rules };
 
     ghost sized = { λ h a. length_big_endian 2 a.bits };
 
