@@ -27,14 +27,14 @@ Onward {K} {V} κ ns x top at least above =
 
 module _ {K V : Type 0} (κ : KeyModel K) (ns : List (Node K V)) (x : K) (least at : ℕ) where
   -- past a branch to the side that the key's bit names
-  pub landed_below : (p : ℕ) (k : K) (zero-side one_side : ℕ) (above : Option Parent) → At ns at (Branch p k zero-side one_side) → (a : Result (Landing K V) OutOfOrder)
-      → Whatever κ ns (Landed κ x (Some (record { at = at; sibling = cond (κ.bit x p) zero-side one_side })) a) (p + 1) (cond (κ.bit x p) one_side zero-side)
+  pub landed_below : (p : ℕ) (k : K) (zero_side one_side : ℕ) (above : Option Parent) → At ns at (Branch p k zero_side one_side) → (a : Result (Landing K V) OutOfOrder)
+      → Whatever κ ns (Landed κ x (Some (record { at = at; sibling = cond (κ.bit x p) zero_side one_side })) a) (p + 1) (cond (κ.bit x p) one_side zero_side)
       → Whatever κ ns (Landed κ x above a) least at
-  landed_below p k zero-side one_side above read a next =
-      whatever_branch κ ns _ least at p k zero-side one_side read (λ l r sl sr el er o. by_bit (κ.bit x p) l r sl sr el er o next)
+  landed_below p k zero_side one_side above read a next =
+      whatever_branch κ ns _ least at p k zero_side one_side read (λ l r sl sr el er o. by_bit (κ.bit x p) l r sl sr el er o next)
     where
-      by_bit : (b : Bool) (l r : Tree K V) → Stands ns l → Stands ns r → root l ≡ zero-side → root r ≡ one_side → Ordered κ least (branch at p k l r)
-          → Whatever κ ns (Landed κ x (Some (record { at = at; sibling = cond b zero-side one_side })) a) (p + 1) (cond b one_side zero-side)
+      by_bit : (b : Bool) (l r : Tree K V) → Stands ns l → Stands ns r → root l ≡ zero_side → root r ≡ one_side → Ordered κ least (branch at p k l r)
+          → Whatever κ ns (Landed κ x (Some (record { at = at; sibling = cond b zero_side one_side })) a) (p + 1) (cond b one_side zero_side)
           → MatchResult a (λ d. d ≡ cond b (landing κ x (Some (record { at = at; sibling = root l })) r) (landing κ x (Some (record { at = at; sibling = root r })) l)) (λ _. ⊥)
       by_bit true l r sl sr el er o below = subst (λ (n : ℕ). Landed κ x (Some (record { at = at; sibling = n })) a r) (sym el) (below r sr er o.5)
       by_bit false l r sl sr el er o below = subst (λ (n : ℕ). Landed κ x (Some (record { at = at; sibling = n })) a l) (sym er) (below l sl el o.4)

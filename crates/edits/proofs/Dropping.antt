@@ -101,7 +101,7 @@ module _ {K V : Type 0} (κ : KeyModel K) (x : K) where
       }
 
       deeper : (c : Tree K V) → size c ≤ size l + size r → Above ns q c → Above ns q (branch i p k l r)
-      deeper c less above-c = record { branch_in = above-c.branch_in; sibling_in = above-c.sibling_in; three = let three = above-c.three in omega arith }
+      deeper c less above_c = record { branch_in = above_c.branch_in; sibling_in = above_c.sibling_in; three = let three = above_c.three in omega arith }
 
       by_bit : (b : Bool) → ((landing κ x (Some left) l).parent ≡ Some q → (◌≡◌ {A = Option Parent} (Some left) (Some q)) ⊎ Above ns q l)
           → ((landing κ x (Some right) r).parent ≡ Some q → (◌≡◌ {A = Option Parent} (Some right) (Some q)) ⊎ Above ns q r)
@@ -186,7 +186,7 @@ module _ {K V : Type 0} (κ : KeyModel K) (x : K) (ns ns' : List (Node K V)) (be
       → Chain ns before.head chain → length chain ≡ before.free → ((j : ℕ) → uses j t + times j chain ≤ 1)
       → q.at < length ns → end < length ns → At ns q.sibling content → ClosedUp ns ns' before q content end after
       → Left κ ns ns' (without_key κ x (Some t)) (owned (Some t) chain) before after (Some (root t))
-  left_closed t end q content chain st o ends less linked counted once parent_in_lem end-in was closed =
+  left_closed t end q content chain st o ends less linked counted once parent_in_lem end_in was closed =
       let parent : ℕ = q.at in
       let sibling : ℕ = q.sibling in
       let within = less.within in
@@ -216,7 +216,7 @@ module _ {K V : Type 0} (κ : KeyModel K) (x : K) (ns ns' : List (Node K V)) (be
       let at_sibling : At ns' sibling (Free before.head) = subst (λ (n : List (Node K V)). At n sibling (Free before.head)) (sym written)
       (at_set_other give end _ sibling _ se (at_set_same lift sibling _ (rw length-set was.0))) in
       let at_end : At ns' end (Free sibling) = subst (λ (n : List (Node K V)). At n end (Free sibling)) (sym written)
-      (at_set_same give end _ (rw (length-set, length-set) end-in)) in
+      (at_set_same give end _ (rw (length-set, length-set) end_in)) in
       let chained : ℕ → ℕ = λ j. times j chain in
       record {
         map = Some less.tree;

@@ -49,17 +49,17 @@ module _ {K V : Type 0} (κ : KeyModel K) (ns : List (Node K V)) (x : K) where
   sought_on_side i p k l r h false e (Ok (Open w m)) s = (s.0, s.1, left (h, e, s.2))
 
 module _ {K V : Type 0} (κ : KeyModel K) (ns : List (Node K V)) (x : K) (least at : ℕ) where
-  pub sought_below : (p : ℕ) (k : K) (zero-side one_side : ℕ) → At ns at (Branch p k zero-side one_side) → p ≤ split κ x k
-      → (a : Result (Seat K V) OutOfOrder) → Whatever κ ns (Sought κ ns x a) (p + 1) (cond (κ.bit x p) one_side zero-side) → Whatever κ ns (Sought κ ns x a) least at
-  sought_below p k zero-side one_side read h a next =
-      whatever_branch κ ns _ least at p k zero-side one_side read (λ l r sl sr el er o. by_bit (κ.bit x p) refl l r sl sr el er o)
+  pub sought_below : (p : ℕ) (k : K) (zero_side one_side : ℕ) → At ns at (Branch p k zero_side one_side) → p ≤ split κ x k
+      → (a : Result (Seat K V) OutOfOrder) → Whatever κ ns (Sought κ ns x a) (p + 1) (cond (κ.bit x p) one_side zero_side) → Whatever κ ns (Sought κ ns x a) least at
+  sought_below p k zero_side one_side read h a next =
+      whatever_branch κ ns _ least at p k zero_side one_side read (λ l r sl sr el er o. by_bit (κ.bit x p) refl l r sl sr el er o)
     where
-      by_bit : (b : Bool) → κ.bit x p ≡ b → (l r : Tree K V) → Stands ns l → Stands ns r → root l ≡ zero-side → root r ≡ one_side
+      by_bit : (b : Bool) → κ.bit x p ≡ b → (l r : Tree K V) → Stands ns l → Stands ns r → root l ≡ zero_side → root r ≡ one_side
           → Ordered κ least (branch at p k l r) → Sought κ ns x a (branch at p k l r)
       by_bit true e l r sl sr el er o =
-          sought_on_side κ ns x at p k l r h true e a (next r sr (er ∙ ap (λ z. cond z one_side zero-side) (sym e)) o.5)
+          sought_on_side κ ns x at p k l r h true e a (next r sr (er ∙ ap (λ z. cond z one_side zero_side) (sym e)) o.5)
       by_bit false e l r sl sr el er o =
-          sought_on_side κ ns x at p k l r h false e a (next l sl (el ∙ ap (λ z. cond z one_side zero-side) (sym e)) o.4)
+          sought_on_side κ ns x at p k l r h false e a (next l sl (el ∙ ap (λ z. cond z one_side zero_side) (sym e)) o.4)
 
   -- at a leaf of the key
   pub sought_taken : (k : K) (v : V) → At ns at (Leaf k v) → κ.places ≤ split κ x k → Whatever κ ns (Sought κ ns x (Ok (Taken at k v))) least at
@@ -70,7 +70,7 @@ module _ {K V : Type 0} (κ : KeyModel K) (ns : List (Node K V)) (x : K) (least 
   sought_other_leaf k v m read e h = whatever_leaf κ ns (Sought κ ns x (Ok (Open at m))) least at k v read (read.0, h, (refl, e))
 
   -- at a branch whose prefix the key does not share
-  pub sought_above : (p : ℕ) (k : K) (zero-side one_side m : ℕ) → At ns at (Branch p k zero-side one_side) → split κ x k ≡ m → m < p
+  pub sought_above : (p : ℕ) (k : K) (zero_side one_side m : ℕ) → At ns at (Branch p k zero_side one_side) → split κ x k ≡ m → m < p
       → Whatever κ ns (Sought κ ns x (Ok (Open at m))) least at
-  sought_above p k zero-side one_side m read e h =
-      whatever_branch κ ns (Sought κ ns x (Ok (Open at m))) least at p k zero-side one_side read (λ l r sl sr el er o. (read.0, omega (arith, o.1), here (refl, e, h)))
+  sought_above p k zero_side one_side m read e h =
+      whatever_branch κ ns (Sought κ ns x (Ok (Open at m))) least at p k zero_side one_side read (λ l r sl sr el er o. (read.0, omega (arith, o.1), here (refl, e, h)))

@@ -41,15 +41,15 @@ module _ {K V : Type 0} (κ : KeyModel K) (ns : List (Node K V)) (P : Tree K V �
       let same = one_node ns i at _ _ e s.0 read in absurd (let z : ◌≡◌ {A = ℕ} 0 1 = cc in omega arith)
 
   -- at a branch node a branch, whose sides stand where the node says
-  pub whatever_branch : (p : ℕ) (k : K) (zero-side one_side : ℕ) → At ns at (Branch p k zero-side one_side)
-      → ((l r : Tree K V) → Stands ns l → Stands ns r → root l ≡ zero-side → root r ≡ one_side → Ordered κ least (branch at p k l r) → P (branch at p k l r))
+  pub whatever_branch : (p : ℕ) (k : K) (zero_side one_side : ℕ) → At ns at (Branch p k zero_side one_side)
+      → ((l r : Tree K V) → Stands ns l → Stands ns r → root l ≡ zero_side → root r ≡ one_side → Ordered κ least (branch at p k l r) → P (branch at p k l r))
       → Whatever κ ns P least at
-  whatever_branch p k zero-side one_side read all (leaf i j u) s e o =
+  whatever_branch p k zero_side one_side read all (leaf i j u) s e o =
       let same = one_node ns i at _ _ e s read in absurd (let z : ◌≡◌ {A = ℕ} 0 1 = cc in omega arith)
-  whatever_branch p k zero-side one_side read all (branch i q j l r) s e o =
+  whatever_branch p k zero_side one_side read all (branch i q j l r) s e o =
       let same = one_node ns i at _ _ e s.0 read in
       let is : branch i q j l r ≡ branch at p k l r = cc in
-      let el : root l ≡ zero-side = cc in
+      let el : root l ≡ zero_side = cc in
       let er : root r ≡ one_side = cc in
       subst P (sym is) (all l r s.1 s.2 el er (subst (Ordered κ least) is o))
 

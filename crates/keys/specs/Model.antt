@@ -4,7 +4,7 @@ use Rattle.keys.specs.Bits.{binary}
 use Rattle.keys.specs.declared.kind.KeyKind.{Ghosts}
 
 -- a key kind as the definitions see it: its code, its number of places, and the bit at each place of a key;
--- in a clause under `K: KeyKind` it is written K-as-KeyKind
+-- in a clause under `K: KeyKind` it is written K.KeyKind
 abbrev pub KeyModel : Type 0 → Type 1
 KeyModel K = Ghosts K
 

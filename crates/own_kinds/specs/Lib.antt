@@ -1,3 +1,3 @@
 pub mod Kinds
 pub mod Same
-pub mod ChargeJoinLemmas
+pub mod Lower

@@ -1,5 +1,5 @@
 ghost use Rattle.own_kinds.specs.Kinds.{buoy_bit};
-ghost use Rattle.std.proofs.Common.{sym, ◌∙◌, rules, arith};
+ghost use Rattle.std.proofs.Common.{sym, ◌∙◌, rules};
 ghost use Rattle.keys.specs.Binary.{binary_ext, binary_bits_of};
 ghost use Rattle.own_kinds.specs.Same.{buoy_same};
 
@@ -28,6 +28,7 @@ impl KeyKind for Buoy {
 
     ghost zero_beyond = { Prim.search rules };
 
+    // two buoys with the same bits have the same number, which is what those bits write, so they are the same
     ghost same_bits = { λ a b bits.
         buoy_same a b
         (sym (binary_bits_of 20 a.number a.fits) ∙ binary_ext 20 (buoy_bit a) (buoy_bit b) bits ∙ binary_bits_of 20 b.number b.fits) };

@@ -1,8 +1,8 @@
-ghost use Rattle.std.specs.Prelude.{[], ◌∷◌, refl, ltb};
+ghost use Rattle.std.specs.Prelude.{[], ◌∷◌};
 ghost use Rattle.own_kinds.specs.Kinds.{lower};
 ghost use Rattle.own_kinds.specs.Same.{charge_same};
-ghost use Rattle.std.proofs.Common.{rules, arith};
-ghost use Rattle.own_kinds.specs.ChargeJoinLemmas.{either};
+ghost use Rattle.std.proofs.Common.{rules};
+ghost use Rattle.own_kinds.specs.Lower.{lower_comm};
 
 use crate::values::Charge;
 use records::{Joining, RecordKind};
@@ -29,6 +29,7 @@ impl RecordKind for Charge {
 
     ghost octets = { Prim.search rules };
 
+    // charges with the same byte are the same charge; the other laws the prover finds by itself
     ghost distinct = { λ w a b e. charge_same a b (cc) };
 
     fn kind_code() -> u16 {
@@ -63,7 +64,7 @@ impl Joining for Charge {
 
     ghost idempotent = { Prim.search rules };
 
-    ghost commutative = { λ a b. either a b (ltb b.percent a.percent) (ltb a.percent b.percent) refl refl };
+    ghost commutative = { lower_comm };
 
     ghost associative = { Prim.search rules };
 

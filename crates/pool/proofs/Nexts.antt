@@ -1,7 +1,7 @@
 -- The next entry of a tree is the next of every list of updates that the tree finds.
 use Rattle.std.proofs.Common.{◌≡◌, ℕ, ◌<◌, ◌≤◌, Bool, true, false, cond, ltb, List, [], ◌∷◌, Some, None, Option, sym, refl, ap, ◌∙◌, subst, arith, ltb-false, ltb-true, eq-eqb, eqb-true}
 use Rattle.std.specs.Option.{option_map}
-use Rattle.std.specs.List.{AllByRecursion as All}
+use Rattle.std.specs.List.{AllByRecursion}
 use Rattle.keys.specs.Model.{KeyModel, KeyLaws, number}
 use Rattle.trees.specs.Find.{same_key, after, lookup, Rising, first_after}
 use Rattle.trees.proofs.Rising.{rising_after_first, rising_tail}
@@ -79,7 +79,7 @@ module _ {K V : Type 0} (κ : KeyModel K) where
   key_of None = None
   key_of (Some e) = Some e.0
 
-  all_above : (k : K) (es : List (K × V)) → All (λ (e : K × V). number κ k < number κ e.0) es → (x : K) → listed κ es x ≡ true → number κ k < number κ x
+  all_above : (k : K) (es : List (K × V)) → AllByRecursion (λ (e : K × V). number κ k < number κ e.0) es → (x : K) → listed κ es x ≡ true → number κ k < number κ x
   all_above k [] h x l = absurd (never (sym l))
   all_above k (e ∷ es) h x l = by_listed (number κ k < number κ x) e es x l (λ s. omega (arith, s, h.0)) (λ l'. all_above k es h.1 x l')
 

@@ -17,8 +17,8 @@ all_tags a b = record { bits = bit_or a.bits b.bits; fits = or_lt 16 a.bits b.bi
 
 -- a pair joins part by part
 abbrev pub parts_joined : {A B : Type 0} → (A → A → A) → (B → B → B) → Pair A B → Pair A B → Pair A B
-parts_joined join_first join-second p q =
-    record { first = join_first p.first q.first; second = join-second p.second q.second }
+parts_joined join_first join_second p q =
+    record { first = join_first p.first q.first; second = join_second p.second q.second }
 
 -- a setting's place in the order, as one number: the stamp counts most, then the source, then the word
 abbrev pub setting_rank : Setting → ℕ

@@ -12,12 +12,12 @@ split_same n xs ys xs' ys' p q e = (
 )
 
 -- the parts that a list was split into, taken for those that it was made of
-module _ (n : ℕ) (l front back : List ℕ) (front-is : front ≡ take n l) (back_is : back ≡ drop n l) where
+module _ (n : ℕ) (l front back : List ℕ) (front_is : front ≡ take n l) (back_is : back ≡ drop n l) where
   pub rejoin : (xs ys : List ℕ) → xs ≡ front → ys ≡ back → xs ++ ys ≡ l
-  rejoin xs ys e f = ap₂ ◌++◌ (e ∙ front-is) (f ∙ back_is) ∙ take-append-drop n l
+  rejoin xs ys e f = ap₂ ◌++◌ (e ∙ front_is) (f ∙ back_is) ∙ take-append-drop n l
 
   pub is_front : (xs ys : List ℕ) → length xs ≡ n → xs ++ ys ≡ l → xs ≡ front
-  is_front xs ys e whole = sym (take_at xs ys n e) ∙ ap (take n) whole ∙ sym front-is
+  is_front xs ys e whole = sym (take_at xs ys n e) ∙ ap (take n) whole ∙ sym front_is
 
   pub is_back : (xs ys : List ℕ) → length xs ≡ n → xs ++ ys ≡ l → ys ≡ back
   is_back xs ys e whole = sym (drop_at xs ys n e) ∙ ap (drop n) whole ∙ sym back_is
@@ -29,7 +29,7 @@ overwritten n k xs ys rest e =
     ∙ sym (append_assoc xs ys (drop k rest))
 
 -- A slice l of m + n elements is filled with us up to mid, and holds xs there; then with vs to the end, and holds ys there.
-module _ (m n mid : ℕ) (l xs ys us vs : List ℕ) (mid-is : mid ≡ m) (whole : length l ≡ m + n) (sized : length us ≡ m) where
+module _ (m n mid : ℕ) (l xs ys us vs : List ℕ) (mid_is : mid ≡ m) (whole : length l ≡ m + n) (sized : length us ≡ m) where
   -- what stands behind mid at the first write
   abbrev rest : List ℕ
   rest = post_of 0 (mid - 0) l
@@ -39,7 +39,7 @@ module _ (m n mid : ℕ) (l xs ys us vs : List ℕ) (mid-is : mid ≡ m) (whole 
       → put_mid mid (length (xs ++ rest) - mid) (xs ++ rest) ys ≡ us ++ vs
   filled_in_two front back =
       let first : xs ≡ us = front (simp length-take (omega arith)) in
-      let filled : length xs ≡ mid = ap length first ∙ sized ∙ sym mid-is in
+      let filled : length xs ≡ mid = ap length first ∙ sized ∙ sym mid_is in
       let behind : take (length (xs ++ rest) - mid) (drop mid (xs ++ rest)) ≡ rest = take_rest (xs ++ rest) mid ∙ drop_at xs rest mid filled in
       let second : ys ≡ vs = back (ap length behind ∙ simp length-drop (omega arith)) in
       let k = length (xs ++ rest) - mid in

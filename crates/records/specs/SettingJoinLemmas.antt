@@ -1,3 +1,4 @@
+-- That no two settings have one rank, for the proof that the order of a join does not matter.
 use Rattle.std.specs.Prelude.{◌≡◌}
 use Rattle.std.proofs.Common.{arith}
 use Rattle.records.specs.declared.values.Setting.{Setting}

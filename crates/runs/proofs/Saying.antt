@@ -21,9 +21,9 @@ use Rattle.runs.specs.declared.answer.Answer.{Answer}
 use Rattle.runs.specs.declared.answer.Answer.TheVariants.{Done, Number, Refused}
 
 over : (s : ℕ) → (s < 8 → ⊥) → ltb s 8 ≡ false
-over s no-shelf = go (ltb s 8) refl where
+over s no_shelf = go (ltb s 8) refl where
   go : (b : Bool) → ltb s 8 ≡ b → b ≡ false
-  go true e = absurd (no-shelf (ltb-true s 8 e))
+  go true e = absurd (no_shelf (ltb-true s 8 e))
   go false e = refl
 
 module _ {K V : Type 0} (s : ℕ) where

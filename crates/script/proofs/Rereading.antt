@@ -1,7 +1,7 @@
 -- A call that is printed as its line reads back.
 use Rattle.std.proofs.Common.{◌≡◌, ℕ, ◌+◌, ◌-◌, ◌*◌, ◌^◌, ◌<◌, ◌≤◌, true, List, [], ◌∷◌, length, Some, None, decimal, refl, ap, ◌∙◌, arith, rules}
 use Rattle.std.specs.Char.{is_ascii_digit}
-use Rattle.std.specs.List.{AllByRecursion as All}
+use Rattle.std.specs.List.{AllByRecursion}
 use Rattle.std.specs.Str.{all_ascii_digits}
 use Rattle.std.proofs.lemmas.Fmt.{digits_decimal, digits_value-decimal, decimal_nonempty}
 use Rattle.std.proofs.lemmas.Str.Parse.{IsNumeralModel, numerals_by_fold}
@@ -34,7 +34,7 @@ numeral_digits n (c ∷ cs) h =
     let parts = and_parts (is_ascii_digit c) (all_ascii_digits cs) h in
     rw parts.0 (numeral_digits (n * 10 + (c - 48)) cs parts.1)
 
-letters_digits : (ds : List ℕ) → all_ascii_digits ds ≡ true → All Letter ds
+letters_digits : (ds : List ℕ) → all_ascii_digits ds ≡ true → AllByRecursion Letter ds
 letters_digits [] h = tt
 letters_digits (c ∷ cs) h =
     let parts = and_parts (is_ascii_digit c) (all_ascii_digits cs) h in
@@ -59,7 +59,7 @@ value_decimal_read : (limit n : ℕ) (ws : List (List ℕ)) → n < limit → li
 unfolding value
 value_decimal_read limit n ws fits small = rw (number_decimal limit n ws fits small)
 
-lamp_solid : (r : Lamp) → All Solid (lamp_words r)
+lamp_solid : (r : Lamp) → AllByRecursion Solid (lamp_words r)
 lamp_solid r =
     let set = r.second.second.fits in (
       solid_decimal _ (omega (arith, r.first.fits)),
@@ -117,10 +117,10 @@ shelf_solid s h = solid_decimal s (omega arith)
 key_solid : (k : Word) → Solid (key_word k)
 key_solid k = solid_decimal k.light (omega (arith, k.fits))
 
-name_solid : (w : List ℕ) → 0 < length w → All Letter w → Solid w
+name_solid : (w : List ℕ) → 0 < length w → AllByRecursion Letter w → Solid w
 name_solid w h j = record { some = h; letters = j }
 
-call_solid : (c : Call) → Fitting c → All Solid (call_words c)
+call_solid : (c : Call) → Fitting c → AllByRecursion Solid (call_words c)
 call_solid (Open n) h = (name_solid _ (omega arith) (omega arith), (solid_decimal n (omega arith), tt))
 call_solid (Put s k r) h = (name_solid _ (omega arith) (omega arith), (shelf_solid s h, (key_solid k, lamp_solid r)))
 call_solid (Look s k) h = (name_solid _ (omega arith) (omega arith), (shelf_solid s h, (key_solid k, tt)))

@@ -1,11 +1,11 @@
 -- What holds of all keys of a tree.
 use Rattle.std.proofs.Common.{List, [], ◌∷◌, ◌++◌}
-use Rattle.std.specs.List.{AllByRecursion as All}
+use Rattle.std.specs.List.{AllByRecursion}
 use Rattle.std.proofs.ByRecursion.{All-append}
 use Rattle.trees.specs.Tree.{Tree, leaf, branch, entries, first_entry, AllKeys}
 
 -- P of all elements of two lists in a row holds of those of each
-pub all_parts : {A : Type 0} (P : A → Type 0) (xs ys : List A) → All P (xs ++ ys) → All P xs × All P ys
+pub all_parts : {A : Type 0} (P : A → Type 0) (xs ys : List A) → AllByRecursion P (xs ++ ys) → AllByRecursion P xs × AllByRecursion P ys
 all_parts P [] ys h = (tt, h)
 all_parts P (x ∷ xs) ys h = let parts = all_parts P xs ys h.1 in ((h.0, parts.0), parts.1)
 
@@ -35,12 +35,12 @@ module _ {K V : Type 0} where
   first_key P (branch i p k l r) h = first_key P l h.0
 
   -- the keys of a tree are those of its entries
-  pub all_keys_entries : (P : K → Type 0) (t : Tree K V) → AllKeys P t → All (λ (e : K × V). P e.0) (entries t)
+  pub all_keys_entries : (P : K → Type 0) (t : Tree K V) → AllKeys P t → AllByRecursion (λ (e : K × V). P e.0) (entries t)
   all_keys_entries P (leaf i k v) h = (h, tt)
   all_keys_entries P (branch i p k l r) h =
       All-append (λ (e : K × V). P e.0) (entries l) (entries r) (all_keys_entries P l h.0) (all_keys_entries P r h.1)
 
-  pub entries_all_keys : (P : K → Type 0) (t : Tree K V) → All (λ (e : K × V). P e.0) (entries t) → AllKeys P t
+  pub entries_all_keys : (P : K → Type 0) (t : Tree K V) → AllByRecursion (λ (e : K × V). P e.0) (entries t) → AllKeys P t
   entries_all_keys P (leaf i k v) h = h.0
   entries_all_keys P (branch i p k l r) h =
       let parts = all_parts (λ (e : K × V). P e.0) (entries l) (entries r) h in

@@ -2,7 +2,7 @@
 use Rattle.std.proofs.Common.{◌≡◌, ℕ, ◌<◌, Bool, true, false, cond, not, eqb, List, [], ◌∷◌, ◌++◌, Some, None, Option, sym, refl, ap, ◌∙◌, ap₂, true≢false, eq-eqb, ne_eqb}
 use mathlib.Core.Bool.{false≢true}
 use Rattle.std.specs.Option.{option_or}
-use Rattle.std.specs.List.{AllByRecursion as All}
+use Rattle.std.specs.List.{AllByRecursion}
 use Rattle.keys.specs.Model.{KeyModel, number}
 use Rattle.keys.proofs.Laws.{number_bits}
 use Rattle.trees.specs.Tree.{Tree, branch, entries, move, AllKeys}
@@ -40,7 +40,7 @@ module _ {K V : Type 0} (κ : KeyModel K) (x : K) where
       [ true ↦ refl | false ↦ lookup_append es fs ]
 
   -- a key that differs from all keys of a list finds nothing
-  pub lookup_none : (es : List (K × V)) → All (λ (e : K × V). number κ e.0 ≡ number κ x → ⊥) es → lookup κ es x ≡ None
+  pub lookup_none : (es : List (K × V)) → AllByRecursion (λ (e : K × V). number κ e.0 ≡ number κ x → ⊥) es → lookup κ es x ≡ None
   lookup_none [] h = refl
   lookup_none (e ∷ es) h = ap (λ b. cond b (Some e.1) (lookup κ es x)) (same_key_false κ e.0 x h.0) ∙ lookup_none es h.1
 

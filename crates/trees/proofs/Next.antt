@@ -1,7 +1,7 @@
 -- The first entry after a bound: what a walk down a tree in order may pass over, and what it may answer.
 use Rattle.std.proofs.Common.{◌≡◌, ℕ, ◌<◌, ◌≤◌, true, false, cond, not, List, [], ◌∷◌, ◌++◌, Some, None, Option, sym, refl, ap, ◌∙◌, subst, arith, le-ltb, lt-ltb}
 use Rattle.std.specs.Option.{option_or}
-use Rattle.std.specs.List.{AllByRecursion as All}
+use Rattle.std.specs.List.{AllByRecursion}
 use Rattle.keys.specs.Model.{KeyModel, number, Precedes}
 use Rattle.keys.specs.Split.{split}
 use Rattle.trees.specs.Tree.{Tree, leaf, branch, key, entries, first_entry, AllKeys}
@@ -27,7 +27,7 @@ module _ {K V : Type 0} (κ : KeyModel K) where
       [ true ↦ refl | false ↦ first_after_append b es fs ]
 
   -- nothing in a list comes after a bound that no key of it passes
-  pub first_after_below : (b : K) (es : List (K × V)) → All (λ (e : K × V). number κ e.0 ≤ number κ b) es
+  pub first_after_below : (b : K) (es : List (K × V)) → AllByRecursion (λ (e : K × V). number κ e.0 ≤ number κ b) es
       → first_after κ (Some b) es ≡ None
   first_after_below b [] h = refl
   first_after_below b (e ∷ es) h =

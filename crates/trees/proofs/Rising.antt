@@ -1,7 +1,7 @@
 -- The keys of a tree in order rise from side 0 to side 1.
 use Rattle.std.proofs.Common.{ℕ, ◌+◌, ◌<◌, true, false, List, [], ◌∷◌, ◌++◌, Some, None, Option, sym, ◌∙◌, arith}
 use mathlib.Core.Bool.{false≢true}
-use Rattle.std.specs.List.{AllByRecursion as All}
+use Rattle.std.specs.List.{AllByRecursion}
 use Rattle.std.proofs.ByRecursion.{All-append, All-weaker}
 use Rattle.keys.specs.Model.{KeyModel, Precedes, FirstDifference}
 use Rattle.keys.proofs.Order.{number_less}
@@ -24,10 +24,10 @@ module _ {K : Type 0} (κ : KeyModel K) where
 module _ {K V : Type 0} (κ : KeyModel K) where
   -- every key of one list comes before every key of another
   abbrev pub AllBefore : List (K × V) → List (K × V) → Type 0
-  AllBefore es fs = All (λ (e : K × V). All (λ (f : K × V). Precedes κ e.0 f.0) fs) es
+  AllBefore es fs = AllByRecursion (λ (e : K × V). AllByRecursion (λ (f : K × V). Precedes κ e.0 f.0) fs) es
 
   -- in a list that rises, all that follow the first come after it
-  pub rising_after_first : (e : K × V) (es : List (K × V)) → Rising κ (e ∷ es) → All (λ (f : K × V). Precedes κ e.0 f.0) es
+  pub rising_after_first : (e : K × V) (es : List (K × V)) → Rising κ (e ∷ es) → AllByRecursion (λ (f : K × V). Precedes κ e.0 f.0) es
   rising_after_first e [] h = tt
   rising_after_first e (f ∷ es) h = (h.0, All-weaker _ _ (λ g l. let first = h.0 in omega arith) es (rising_after_first f es h.1))
 
@@ -35,7 +35,7 @@ module _ {K V : Type 0} (κ : KeyModel K) where
   rising_tail e [] h = tt
   rising_tail e (f ∷ es) h = h.1
 
-  pub rising_cons : (e : K × V) (es : List (K × V)) → All (λ (f : K × V). Precedes κ e.0 f.0) es → Rising κ es → Rising κ (e ∷ es)
+  pub rising_cons : (e : K × V) (es : List (K × V)) → AllByRecursion (λ (f : K × V). Precedes κ e.0 f.0) es → Rising κ es → Rising κ (e ∷ es)
   rising_cons e [] a h = tt
   rising_cons e (f ∷ es) a h = (a.0, h)
 

@@ -5,18 +5,18 @@ use Rattle.keys.specs.Model.{number, Precedes}
 use Rattle.keys.specs.Split.{split}
 use Rattle.keys.specs.declared.values.Word.{Word}
 use Rattle.keys.specs.declared.values.Cell.{Cell}
-use Rattle.keys.specs.contracts.word.WordKeyKind.TheImpl.{ghosts as word-kind}
-use Rattle.keys.specs.contracts.cell.CellKeyKind.TheImpl.{ghosts as cell-kind}
+use Rattle.keys.specs.contracts.word.WordKeyKind.TheImpl.{ghosts as word_kind}
+use Rattle.keys.specs.contracts.cell.CellKeyKind.TheImpl.{ghosts as cell_kind}
 use Rattle.records.specs.Pairs.{pair_code, pair_width}
 use Rattle.records.specs.declared.values.Hours.{Hours}
 use Rattle.records.specs.declared.values.Setting.{Setting}
-use Rattle.records.specs.contracts.hours.HoursRecordKind.TheImpl.{ghosts as hours-kind}
-use Rattle.records.specs.contracts.tags.TagsRecordKind.TheImpl.{ghosts as tags-kind}
-use Rattle.records.specs.contracts.setting.SettingRecordKind.TheImpl.{ghosts as setting-kind}
-use Rattle.records.specs.contracts.hours.HoursJoining.TheImpl.{ghosts as hours-join}
-use Rattle.records.specs.contracts.setting.SettingJoining.TheImpl.{ghosts as setting-join}
+use Rattle.records.specs.contracts.hours.HoursRecordKind.TheImpl.{ghosts as hours_kind}
+use Rattle.records.specs.contracts.tags.TagsRecordKind.TheImpl.{ghosts as tags_kind}
+use Rattle.records.specs.contracts.setting.SettingRecordKind.TheImpl.{ghosts as setting_kind}
+use Rattle.records.specs.contracts.hours.HoursJoining.TheImpl.{ghosts as hours_join}
+use Rattle.records.specs.contracts.setting.SettingJoining.TheImpl.{ghosts as setting_join}
 use Rattle.records.specs.declared.values.Mark.{Mark}
-use Rattle.records.specs.contracts.mark.MarkJoining.TheImpl.{ghosts as mark-join}
+use Rattle.records.specs.contracts.mark.MarkJoining.TheImpl.{ghosts as mark_join}
 use Rattle.causes.specs.declared.cause.Cause.TheVariants.{TooFewNodes}
 use Rattle.pool.specs.Machine.{opened}
 use Rattle.runs.specs.declared.call.Call.{Call}
@@ -42,7 +42,7 @@ setting t s w h g f = record { stamp = t; source = s; word = w; fits = (h, g, f)
 
 -- the join of marks, of which there is one
 abbrev marks : Mark → Mark → Mark
-marks = mark-join.joined
+marks = mark_join.joined
 
 -- a put of a mark at a word, on shelf 0
 abbrev put_word : (n : ℕ) → n < 2 ^ 32 → Call Word Mark
@@ -50,16 +50,16 @@ put_word n h = Put 0 (word n h) (record {})
 
 -- the values: words 3 and 5 part at place 29, cells (2, 3), (1, 1) and (0, 2), joins, codes and the width of the lamp record
 pub record Values : Type 0 where
-  pub words_three_and_five_part : split word-kind (word 3 (lit< tt)) (word 5 (lit< tt)) ≡ 29
-  pub cell_number : number cell-kind (cell 2 3 (lit< tt) (lit< tt)) ≡ 13
-  pub cell_order : Precedes cell-kind (cell 1 1 (lit< tt) (lit< tt)) (cell 0 2 (lit< tt) (lit< tt))
-  pub more_hours : hours-join.joined (hours 120 (lit< tt)) (hours 90 (lit< tt)) ≡ hours 120 (lit< tt)
-  pub later_setting : setting-join.joined (setting 10 1 7 (lit< tt) (lit< tt) (lit< tt)) (setting 10 2 3 (lit< tt) (lit< tt) (lit< tt)) ≡ setting 10 2 3 (lit< tt) (lit< tt) (lit< tt)
-  pub pair_of_tags_and_setting : pair_code tags-kind.code setting-kind.code ≡ 291
-  pub lamp_code : pair_code hours-kind.code (pair_code tags-kind.code setting-kind.code) ≡ 563
-  pub lamp_width : pair_width hours-kind.width (pair_width tags-kind.width setting-kind.width) ≡ 14
+  pub words_three_and_five_part : split word_kind (word 3 (lit< tt)) (word 5 (lit< tt)) ≡ 29
+  pub cell_number : number cell_kind (cell 2 3 (lit< tt) (lit< tt)) ≡ 13
+  pub cell_order : Precedes cell_kind (cell 1 1 (lit< tt) (lit< tt)) (cell 0 2 (lit< tt) (lit< tt))
+  pub more_hours : hours_join.joined (hours 120 (lit< tt)) (hours 90 (lit< tt)) ≡ hours 120 (lit< tt)
+  pub later_setting : setting_join.joined (setting 10 1 7 (lit< tt) (lit< tt) (lit< tt)) (setting 10 2 3 (lit< tt) (lit< tt) (lit< tt)) ≡ setting 10 2 3 (lit< tt) (lit< tt) (lit< tt)
+  pub pair_of_tags_and_setting : pair_code tags_kind.code setting_kind.code ≡ 291
+  pub lamp_code : pair_code hours_kind.code (pair_code tags_kind.code setting_kind.code) ≡ 563
+  pub lamp_width : pair_width hours_kind.width (pair_width tags_kind.width setting_kind.width) ≡ 14
   -- a pool of three: lights 3 and 5 leave no node free, a third light is refused, news of light 3 is not
-  pub pool_of_three : told word-kind marks (opened 3) (put_word 3 (lit< tt) ∷ put_word 5 (lit< tt) ∷ Free ∷ put_word 9 (lit< tt) ∷ put_word 3 (lit< tt) ∷ Count 0 ∷ [])
+  pub pool_of_three : told word_kind marks (opened 3) (put_word 3 (lit< tt) ∷ put_word 5 (lit< tt) ∷ Free ∷ put_word 9 (lit< tt) ∷ put_word 3 (lit< tt) ∷ Count 0 ∷ [])
       ≡ Done ∷ Done ∷ Number 0 ∷ Refused TooFewNodes ∷ Done ∷ Number 2 ∷ []
   -- a pool of none has no room for any light
-  pub pool_of_none : told word-kind marks (opened 0) (put_word 3 (lit< tt) ∷ []) ≡ Refused TooFewNodes ∷ []
+  pub pool_of_none : told word_kind marks (opened 0) (put_word 3 (lit< tt) ∷ []) ≡ Refused TooFewNodes ∷ []

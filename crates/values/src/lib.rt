@@ -7,7 +7,6 @@ ghost use Rattle.values.specs.Values.{Values};
 
 mod wide;
 
-use records::RecordKind;
 pub use wide::Wide;
 
 /// The worked values hold.

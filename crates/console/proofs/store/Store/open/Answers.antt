@@ -1,7 +1,7 @@
 use Rattle.std.proofs.Common.{◌≡◌, ◌≤◌, length, sym, subst₂, arith}
 use Rattle.console.proofs.store.Store.open.Goals as goal
 use Rattle.console.specs.Keeping.{lamps_joined}
-use Rattle.keys.specs.contracts.word.WordKeyKind.TheImpl.{ghosts as word-kind}
+use Rattle.keys.specs.contracts.word.WordKeyKind.TheImpl.{ghosts as word_kind}
 use Rattle.pool.specs.Holds.{Holds}
 use Rattle.pool.specs.Machine.{opened}
 use Rattle.std.proofs.lemmas.List.{take_at}
@@ -18,6 +18,6 @@ returns-in-Ok c =
     record {
       opens_an_empty_pool = (
         few,
-        subst₂ (λ ns n. Holds word-kind lamps_joined ns c.in-Ok.book (opened n)) (sym whole) all (start.1 lamps_joined),
+        subst₂ (λ ns n. Holds word_kind lamps_joined ns c.in-Ok.book (opened n)) (sym whole) all (start.1 lamps_joined),
       );
     }
