@@ -3,9 +3,10 @@
 
 usage: python3 tools/respell.py [--list]      at the top of the repository; --list prints the names and changes nothing
 
-Functions, lemmas, fields and constructors of specs/ and proofs/ are in snake case; facts, types and records in camel case;
-`X?`, which speaks of an optional tree, is `X_if_any`. The crate that writes numbers as bytes is `number_bytes`, since the
-library has a crate of its old name. Functions of src/, strings, inputs and outputs keep their names.
+Functions, lemmas, fields and constructors of specs/ and proofs/, and local names, are in snake case; facts, types and
+records in camel case; `X?`, which speaks of an optional tree, is `X_if_any`. The crate that writes numbers as bytes is
+`number_bytes`, since the library has a crate of its old name. Functions of src/, strings, inputs and outputs keep their
+names. It is written for the files as they were; on files that it has turned it changes nothing.
 """
 
 import collections
@@ -20,6 +21,9 @@ DEFINED = re.compile(r"^[ \t]*(?:(?:pub|abbrev|unfoldable|record|data|module)[ \
 TOKEN = re.compile(r"(?<![\w'?-])[A-Za-z_][\w]*(?:-[\w]+)*[?']*(?![\w'-])")
 HEADED = re.compile(r"^[ \t]*(?:pub[ \t]+)?(?:record|data)[ \t]+(%s)[ \t]+[({]" % NAME, re.M)
 BY_HAND = {"getD-alike": "get_or_alike", "Goes_on": "GoesOn"}
+# names that one file alone knows: imported under them, bound by a `let`, or a parameter
+LOCAL = """above-c cell-kind end-in front-is hours-join hours-kind join-second mark-join mid-is no-shelf setting-join setting-kind
+tags-join tags-kind word-kind zero-side""".split()
 
 
 def respelled(name):
@@ -48,7 +52,7 @@ def write(path, text):
 
 def defined_names():
     """The own names whose spelling changes; a goal's name is the check's, and stays."""
-    found, goals = set(), set()
+    found, goals = set(LOCAL), set()
     for path in own_files():
         text = re.sub(r"--[^\n]*", "", read(path))
         for m in DEFINED.finditer(text):
