@@ -1,31 +1,15 @@
-ghost use Rattle.std.specs.Prelude.{◌≡◌};
+ghost use Rattle.std.specs.Prelude.{◌≡◌, Some};
 ghost use Rattle.causes.specs.Causes.{number_of, word_for};
 
 use crate::cause::Cause;
+use std::fmt;
 
 impl Cause {
     /// The number by which a refusal is known outside.
     pub fn number(self) -> u8
         ensures is_its_number { result ≡ number_of self }
     {
-        match self {
-            Cause::TooManyNodes => 1,
-            Cause::NoSuchShelf => 2,
-            Cause::OutOfOrder => 3,
-            Cause::TooFewNodes => 4,
-            Cause::RecordTooWide => 5,
-            Cause::NotBlockLength => 6,
-            Cause::CheckWrong => 7,
-            Cause::OtherKinds => 8,
-            Cause::NumberOrLastMark => 9,
-            Cause::CountOrPadding => 10,
-            Cause::Unreadable => 11,
-            Cause::NotRising => 12,
-            Cause::BlockFull => 13,
-            Cause::BufferTooShort => 14,
-            Cause::InputEndsEarly => 15,
-            Cause::TooManyFiles => 16,
-        }
+        self as u8
     }
 
     /// The cause in words, for people.
@@ -50,5 +34,14 @@ impl Cause {
             Cause::InputEndsEarly => "input ends early",
             Cause::TooManyFiles => "too many files",
         }
+    }
+}
+
+/// A cause is printed as its word.
+impl fmt::Display for Cause {
+    ghost output = { λ c. Some (word_for c) };
+
+    fn fmt<W: fmt::Write>(&self, f: &mut fmt::Formatter<W>) -> fmt::Result {
+        f.write_str(self.word())
     }
 }
