@@ -56,37 +56,37 @@ exponent_below j w z low high =
 
 -- the idle places are among the leading zeros, and the first of the other places is the first difference
 pub record Led {K : Type 0} (κ : KeyModel K) (a b : K) (zeros : ℕ) : Type 0 where
-  pub idle : 64 - κ.places ≤ zeros
-  pub first : FirstDifference κ a b (zeros - (64 - κ.places))
+  pub idle : 64 - κ.PLACES ≤ zeros
+  pub first : FirstDifference κ a b (zeros - (64 - κ.PLACES))
 
-module _ {K : Type 0} (κ : KeyModel K) (a b : K) (x y : ℕ) (ex : x ≡ binary κ.places (κ.bit a)) (ey : y ≡ binary κ.places (κ.bit b))
-    (wide : κ.places ≤ 64) (some : 0 < bit_xor x y) where
+module _ {K : Type 0} (κ : KeyModel K) (a b : K) (x y : ℕ) (ex : x ≡ binary κ.PLACES (κ.bit a)) (ey : y ≡ binary κ.PLACES (κ.bit b))
+    (wide : κ.PLACES ≤ 64) (some : 0 < bit_xor x y) where
   -- the exclusive or has no bit above the places
-  fits_places : bit_xor x y < 2 ^ κ.places
+  fits_places : bit_xor x y < 2 ^ κ.PLACES
   fits_places =
-      xor_lt κ.places x y (omega (arith, binary_lt κ.places (κ.bit a))) (omega (arith, binary_lt κ.places (κ.bit b)))
+      xor_lt κ.PLACES x y (omega (arith, binary_lt κ.PLACES (κ.bit a))) (omega (arith, binary_lt κ.PLACES (κ.bit b)))
 
   led_by : (zeros j : ℕ) → zeros + suc j ≡ 64 → 2 ^ j ≤ bit_xor x y → bit_xor x y < 2 ^ suc j → Led κ a b zeros
   led_by zeros j e low high = record {
     idle = omega (arith, below);
     first = record {
       within = omega (arith, below);
-      agree = λ q h. bit_is a x ex q (omega (arith, below)) ∙ digits_agree x y j low high (κ.places - suc q) (omega (arith, below))
+      agree = λ q h. bit_is a x ex q (omega (arith, below)) ∙ digits_agree x y j low high (κ.PLACES - suc q) (omega (arith, below))
           ∙ sym (bit_is b y ey q (omega (arith, below)));
       differ = λ same. digits_differ x y j low high (sym (at a x ex) ∙ same ∙ at b y ey);
     };
   } where
-    below : j < κ.places
-    below = exponent_below j κ.places (bit_xor x y) low fits_places
+    below : j < κ.PLACES
+    below = exponent_below j κ.PLACES (bit_xor x y) low fits_places
 
-    bit_is : (k : K) (n : ℕ) → n ≡ binary κ.places (κ.bit k) → (q : ℕ) → q < κ.places → κ.bit k q ≡ digit n (κ.places - suc q)
-    bit_is k n e q h = sym (ap (λ (m : ℕ). digit m (κ.places - suc q)) e ∙ digit_binary κ.places (κ.bit k) q h)
+    bit_is : (k : K) (n : ℕ) → n ≡ binary κ.PLACES (κ.bit k) → (q : ℕ) → q < κ.PLACES → κ.bit k q ≡ digit n (κ.PLACES - suc q)
+    bit_is k n e q h = sym (ap (λ (m : ℕ). digit m (κ.PLACES - suc q)) e ∙ digit_binary κ.PLACES (κ.bit k) q h)
 
-    at : (k : K) (n : ℕ) → n ≡ binary κ.places (κ.bit k) → κ.bit k (zeros - (64 - κ.places)) ≡ digit n j
+    at : (k : K) (n : ℕ) → n ≡ binary κ.PLACES (κ.bit k) → κ.bit k (zeros - (64 - κ.PLACES)) ≡ digit n j
     at k n f =
-        let p : zeros - (64 - κ.places) < κ.places = omega (arith, below) in
-        let back : κ.places - suc (zeros - (64 - κ.places)) ≡ j = omega (arith, below) in
-        bit_is k n f (zeros - (64 - κ.places)) p ∙ ap (digit n) back
+        let p : zeros - (64 - κ.PLACES) < κ.PLACES = omega (arith, below) in
+        let back : κ.PLACES - suc (zeros - (64 - κ.PLACES)) ≡ j = omega (arith, below) in
+        bit_is k n f (zeros - (64 - κ.PLACES)) p ∙ ap (digit n) back
 
   pub led : Led κ a b (count_leading_zeros 64 (bit_xor x y))
   led =

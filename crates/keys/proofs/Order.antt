@@ -27,17 +27,17 @@ unlike x false ne e = absurd (ne e)
 module _ {K : Type 0} (κ : KeyModel K) (a b : K) where
   pub number_less : LeftOf κ a b → Precedes κ a b
   number_less (p, d, e) =
-      binary_less (κ.bit a) (κ.bit b) κ.places (suc p) d.within
+      binary_less (κ.bit a) (κ.bit b) κ.PLACES (suc p) d.within
       (one_more (κ.bit a) (κ.bit b) p d.agree e (unlike (κ.bit a p) (κ.bit b p) d.differ e))
 
 module _ {K : Type 0} (κ : KeyModel K) (a b : K) where
   -- the way of the first difference decides
   pub left_of : Precedes κ a b → LeftOf κ a b
-  left_of h = ⊎_elim differ same (cases_lt (split κ a b) κ.places) where
-    same : κ.places ≤ split κ a b → LeftOf κ a b
-    same l = absurd (omega (arith, binary_ext κ.places (κ.bit a) (κ.bit b) (λ q i. split_same κ a b q (omega arith))))
+  left_of h = ⊎_elim differ same (cases_lt (split κ a b) κ.PLACES) where
+    same : κ.PLACES ≤ split κ a b → LeftOf κ a b
+    same l = absurd (omega (arith, binary_ext κ.PLACES (κ.bit a) (κ.bit b) (λ q i. split_same κ a b q (omega arith))))
 
-    differ : split κ a b < κ.places → LeftOf κ a b
+    differ : split κ a b < κ.PLACES → LeftOf κ a b
     differ l = side (κ.bit a (split κ a b)) refl where
       d : FirstDifference κ a b (split κ a b)
       d = split_is_first κ a b l

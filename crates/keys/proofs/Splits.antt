@@ -48,24 +48,24 @@ module _ {K : Type 0} (κ : KeyModel K) where
       go false e c = record { low = omega arith; high = omega arith; same = λ i h h'. absurd (omega arith); differ = λ h. beq_false _ _ e }
 
   module _ (a b : K) where
-    pub split_le : split κ a b ≤ κ.places
+    pub split_le : split κ a b ≤ κ.PLACES
     unfolding split
-    split_le = omega (arith, (scan κ.places 0 a b).high)
+    split_le = omega (arith, (scan κ.PLACES 0 a b).high)
 
     pub split_same : (i : ℕ) → i < split κ a b → κ.bit a i ≡ κ.bit b i
     unfolding split
-    split_same i h = (scan κ.places 0 a b).same i (omega arith) h
+    split_same i h = (scan κ.PLACES 0 a b).same i (omega arith) h
 
-    pub split_differ : split κ a b < κ.places → κ.bit a (split κ a b) ≡ κ.bit b (split κ a b) → ⊥
+    pub split_differ : split κ a b < κ.PLACES → κ.bit a (split κ a b) ≡ κ.bit b (split κ a b) → ⊥
     unfolding split
-    split_differ h = (scan κ.places 0 a b).differ (omega arith)
+    split_differ h = (scan κ.PLACES 0 a b).differ (omega arith)
 
     -- keys that agree below p split at p or beyond
-    pub split_beyond : (p : ℕ) → p ≤ κ.places → ((i : ℕ) → i < p → κ.bit a i ≡ κ.bit b i) → p ≤ split κ a b
+    pub split_beyond : (p : ℕ) → p ≤ κ.PLACES → ((i : ℕ) → i < p → κ.bit a i ≡ κ.bit b i) → p ≤ split κ a b
     split_beyond p h f = ⊎_elim (λ g. absurd (split_differ (omega arith) (f _ g))) (λ g. g) (cases_lt (split κ a b) p)
 
     -- and so one place further
-    pub split_step : (p : ℕ) → p < κ.places → p ≤ split κ a b → κ.bit a p ≡ κ.bit b p → p < split κ a b
+    pub split_step : (p : ℕ) → p < κ.PLACES → p ≤ split κ a b → κ.bit a p ≡ κ.bit b p → p < split κ a b
     split_step p h g e = ⊎_elim (λ c. absurd (split_differ (omega arith) (subst (λ i. κ.bit a i ≡ κ.bit b i) c e))) (λ c. c) (cases p _ g)
 
     -- a place where the bits differ is not before the split
@@ -76,7 +76,7 @@ module _ {K : Type 0} (κ : KeyModel K) where
     split_unlike p e = ⊎_elim (λ g. absurd (e (split_same p g))) (λ g. g) (cases_lt p (split κ a b))
 
     -- keys that split nowhere are one, by the law of every kind
-    pub split_whole : ((x y : K) → ((p : ℕ) → p < κ.places → κ.bit x p ≡ κ.bit y p) → x ≡ y) → κ.places ≤ split κ a b → a ≡ b
+    pub split_whole : ((x y : K) → ((p : ℕ) → p < κ.PLACES → κ.bit x p ≡ κ.bit y p) → x ≡ y) → κ.PLACES ≤ split κ a b → a ≡ b
     split_whole law h = law a b (λ i g. split_same i (omega arith))
 
     -- the first difference is the split
@@ -87,11 +87,11 @@ module _ {K : Type 0} (κ : KeyModel K) where
         omega arith
 
     -- and where keys split, they first differ
-    pub split_is_first : split κ a b < κ.places → FirstDifference κ a b (split κ a b)
+    pub split_is_first : split κ a b < κ.PLACES → FirstDifference κ a b (split κ a b)
     split_is_first h = record { within = h; agree = split_same; differ = split_differ h }
 
-  pub split_refl : (a : K) → split κ a a ≡ κ.places
-  split_refl a = let h : κ.places ≤ split κ a a = split_beyond a a κ.places (omega arith) (λ i g. refl) in omega (arith, split_le a a)
+  pub split_refl : (a : K) → split κ a a ≡ κ.PLACES
+  split_refl a = let h : κ.PLACES ≤ split κ a a = split_beyond a a κ.PLACES (omega arith) (λ i g. refl) in omega (arith, split_le a a)
 
   split_swap : (a b : K) → split κ a b ≤ split κ b a
   split_swap a b = split_beyond b a (split κ a b) (split_le a b) (λ i g. sym (split_same a b i g))
@@ -103,6 +103,6 @@ module _ {K : Type 0} (κ : KeyModel K) where
   split_tri a b c p h g = split_beyond a c p (omega (arith, split_le a b)) (λ i f. split_same a b i (omega arith) ∙ split_same b c i (omega arith))
 
   -- keys of the same bits split from others alike
-  pub split_like : (a b : K) → κ.places ≤ split κ a b → (x : K) → split κ a x ≡ split κ b x
+  pub split_like : (a b : K) → κ.PLACES ≤ split κ a b → (x : K) → split κ a x ≡ split κ b x
   split_like a b h x = let i = split_tri b a x (split κ a x) (omega (arith, split_sym a b, split_le a x)) (omega arith) in
       let i' = split_tri a b x (split κ b x) (omega (arith, split_le b x)) (omega arith) in omega arith

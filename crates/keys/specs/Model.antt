@@ -11,7 +11,7 @@ KeyModel K = Ghosts K
 module _ {K : Type 0} (κ : KeyModel K) where
   -- a key's number: its bits read in binary
   abbrev pub number : K → ℕ
-  number k = binary κ.places (κ.bit k)
+  number k = binary κ.PLACES (κ.bit k)
 
   -- keys are ordered by number
   abbrev pub Precedes : K → K → Type 0
@@ -24,7 +24,7 @@ module _ {K : Type 0} (κ : KeyModel K) where
 
   -- p is the first place in which a and b differ
   pub record FirstDifference (a b : K) (p : ℕ) : Type 0 where
-    pub within : p < κ.places
+    pub within : p < κ.PLACES
     pub agree : (q : ℕ) → q < p → κ.bit a q ≡ κ.bit b q
     pub differ : κ.bit a p ≡ κ.bit b p → ⊥
 
@@ -38,6 +38,6 @@ module _ {K : Type 0} (κ : KeyModel K) where
 
 -- what every key kind owes, in the form that proofs on trees use
 pub record KeyLaws {K : Type 0} (κ : KeyModel K) : Type 0 where
-  pub few : κ.places ≤ 64
-  pub same_bits : (a b : K) → ((p : ℕ) → p < κ.places → κ.bit a p ≡ κ.bit b p) → a ≡ b
+  pub few : κ.PLACES ≤ 64
+  pub same_bits : (a b : K) → ((p : ℕ) → p < κ.PLACES → κ.bit a p ≡ κ.bit b p) → a ≡ b
   pub same_number : (a b : K) → number κ a ≡ number κ b → a ≡ b

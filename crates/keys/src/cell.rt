@@ -5,11 +5,11 @@ ghost use Rattle.keys.specs.Cells.{cells_same};
 ghost use Rattle.std.proofs.Common.{rules, arith};
 
 use crate::kind::KeyKind;
+use crate::numbers::number_bit;
 use crate::values::Cell;
 
-const PLACES_OF_CELL: u8 = 32;
-
-const CELL_NUMBERS: u64 = 0x1_0000_0000;
+// A row and a column have as many bits each.
+const PLACES_OF_HALF: u8 = 16;
 
 const ROW_TOP: u32 = 31;
 
@@ -37,11 +37,11 @@ fn gathered_bits_write_the_number()
 impl KeyKind for Cell {
     const CODE: u16 = 2;
 
-    const PLACES: u8 = PLACES_OF_CELL;
+    const PLACES: u8 = 2 * PLACES_OF_HALF;
 
-    ghost code = { 2 };
+    ghost CODE = { 2 };
 
-    ghost places = { 32 };
+    ghost PLACES = { 32 };
 
     ghost bit = { cell_bit };
 
@@ -53,33 +53,20 @@ impl KeyKind for Cell {
 
     ghost same_bits = { cells_same };
 
-    fn kind_code() -> u16 {
-        Self::CODE
-    }
-
-    fn place_count() -> u8 {
-        Self::PLACES
-    }
-
     fn bit_at(self, place: u8) -> bool {
-        if place >= PLACES_OF_CELL {
-            return false;
-        }
-        let k = 15 - place as u32 / 2;
         if place % 2 == 0 {
-            (self.row >> k) % 2 == 1
+            number_bit(self.row.into(), PLACES_OF_HALF, place / 2)
         } else {
-            (self.column >> k) % 2 == 1
+            number_bit(self.column.into(), PLACES_OF_HALF, place / 2)
         }
     }
 
     fn from_number(n: u64) -> Option<Cell> {
         gathered_bits_write_the_number();
-        if n >= CELL_NUMBERS {
-            return None;
-        }
-        let row = gather(n as u32, ROW_TOP);
-        let column = gather(n as u32, COLUMN_TOP);
-        Some(Cell { row, column })
+        let n = u32::try_from(n).ok()?;
+        Some(Cell {
+            row: gather(n, ROW_TOP),
+            column: gather(n, COLUMN_TOP),
+        })
     }
 }

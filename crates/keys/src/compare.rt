@@ -34,8 +34,8 @@ pub fn comes_before<K: KeyKind>(a: K, b: K) -> bool
 // The leading zeros of the exclusive or of two keys' numbers lead to the first difference: a fact, as above.
 fn highest_bit_is_first_difference<K: KeyKind>(a: K, b: K)
     ensures equal_numbers { (x y : ℕ) → Numbers (K.KeyKind) a b x y → bit_xor x y ≡ 0 → DifferFirst (K.KeyKind) a b None }
-    ensures zeros_past_idle_places { (x y w : ℕ) → Numbers (K.KeyKind) a b x y → w ≡ K.KeyKind.places → (bit_xor x y ≢ 0) → 64 - w ≤ count_leading_zeros 64 (bit_xor x y) }
-    ensures first_place { (x y w : ℕ) → Numbers (K.KeyKind) a b x y → w ≡ K.KeyKind.places → (bit_xor x y ≢ 0) → DifferFirst (K.KeyKind) a b (Some (count_leading_zeros 64 (bit_xor x y) - (64 - w))) }
+    ensures zeros_past_idle_places { (x y w : ℕ) → Numbers (K.KeyKind) a b x y → w ≡ K.KeyKind.PLACES → (bit_xor x y ≢ 0) → 64 - w ≤ count_leading_zeros 64 (bit_xor x y) }
+    ensures first_place { (x y w : ℕ) → Numbers (K.KeyKind) a b x y → w ≡ K.KeyKind.PLACES → (bit_xor x y ≢ 0) → DifferFirst (K.KeyKind) a b (Some (count_leading_zeros 64 (bit_xor x y) - (64 - w))) }
 {}
 
 /// The first place in which two keys differ, or `None` where they are one key.
@@ -48,6 +48,6 @@ pub fn first_difference<K: KeyKind>(a: K, b: K) -> Option<u8>
         return None;
     }
     // the number's lowest bit is the last place, so 64 less the places stand idle above place 0
-    let idle = 64 - K::place_count();
+    let idle = 64 - K::PLACES;
     Some(differing.leading_zeros() as u8 - idle)
 }

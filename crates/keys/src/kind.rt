@@ -6,26 +6,18 @@ ghost use Rattle.keys.specs.Bits.{binary};
 /// A key is its bits: a kind has 1 to 64 places, and for each key a bit at each place, of which
 /// place 0 is the highest. Everything above this trait knows a key by its bits alone.
 pub trait KeyKind: Copy {
-    /// The code by which files know this kind; `kind_code` answers it.
+    /// The code by which files know this kind.
     const CODE: u16;
 
-    /// The number of places; `place_count` answers it.
+    /// The number of places.
     const PLACES: u8;
 
-    // what CODE says, for contracts
-    ghost code: { ℕ };
-    // what PLACES says, for contracts
-    ghost places: { ℕ };
+    // The two constants again, as contracts name them: the check proves each equal to its constant.
+    ghost CODE: { ℕ };
+
+    ghost PLACES: { ℕ };
     // the bit at each place of a key
     ghost bit: { Self → ℕ → Bool };
-
-    /// The kind's code.
-    fn kind_code() -> u16
-        ensures is_code { result ≡ code };
-
-    /// The kind's number of places.
-    fn place_count() -> u8
-        ensures is_places { result ≡ places };
 
     /// The bit at a place, 0 past the last one.
     fn bit_at(self, place: u8) -> bool
@@ -33,28 +25,28 @@ pub trait KeyKind: Copy {
 
     /// The key that has this number, or `None` exactly where no key has it.
     fn from_number(n: u64) -> Option<Self>
-        ensures only_key_of_that_number { MatchOption result ((k : Self) → binary places (bit k) ≢ n) (λ k. binary places (bit k) ≡ n) };
+        ensures only_key_of_that_number { MatchOption result ((k : Self) → binary PLACES (bit k) ≢ n) (λ k. binary PLACES (bit k) ≡ n) };
 
     /// The key's number: its bits read in binary. A kind may answer it faster.
     fn number(self) -> u64
-        ensures is_number { result ≡ binary places (bit self) }
+        ensures is_number { result ≡ binary PLACES (bit self) }
     {
         let mut n: u64 = 0;
-        for p in 0..Self::place_count() {
+        for p in 0..Self::PLACES {
             n = n * 2 + self.bit_at(p) as u64;
         }
         n
     }
 
     // a code has 16 bits
-    ghost coded: { code < 65536 };
+    ghost coded: { CODE < 65536 };
 
     // a kind has 1 to 64 places
-    ghost places_bounded: { (1 ≤ places) × (places ≤ 64) };
+    ghost places_bounded: { (1 ≤ PLACES) × (PLACES ≤ 64) };
 
     // past the last place every bit is 0
-    ghost zero_beyond: { (k : Self) (p : ℕ) → places ≤ p → bit k p ≡ false };
+    ghost zero_beyond: { (k : Self) (p : ℕ) → PLACES ≤ p → bit k p ≡ false };
 
     // two keys with the same bits are the same key
-    ghost same_bits: { (a b : Self) → ((p : ℕ) → p < places → bit a p ≡ bit b p) → a ≡ b };
+    ghost same_bits: { (a b : Self) → ((p : ℕ) → p < PLACES → bit a p ≡ bit b p) → a ≡ b };
 }

@@ -4,8 +4,8 @@
 
 mod cell;
 mod compare;
-mod facts;
 mod kind;
+mod numbers;
 mod values;
 mod word;
 
@@ -13,6 +13,6 @@ pub use compare::{
     comes_before, first_difference, first_difference_decides_order, numbers_tell_keys_apart,
     same_key,
 };
-pub use facts::bits_write_their_number;
 pub use kind::KeyKind;
+pub use numbers::{bits_write_their_number, number_bit};
 pub use values::{Cell, Word};

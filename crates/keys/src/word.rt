@@ -2,23 +2,19 @@ ghost use Rattle.keys.specs.Kinds.{word_bit};
 ghost use Rattle.keys.specs.Cells.{words_same};
 ghost use Rattle.std.proofs.Common.{rules, arith};
 
-use crate::facts::bits_write_their_number;
 use crate::kind::KeyKind;
+use crate::numbers::{bits_write_their_number, number_bit};
 use crate::values::Word;
-
-const PLACES_OF_WORD: u8 = 32;
-
-const WORD_NUMBERS: u64 = 0x1_0000_0000;
 
 /// Words: code 1, 32 places, the number of a word is the light's own.
 impl KeyKind for Word {
     const CODE: u16 = 1;
 
-    const PLACES: u8 = PLACES_OF_WORD;
+    const PLACES: u8 = 32;
 
-    ghost code = { 1 };
+    ghost CODE = { 1 };
 
-    ghost places = { 32 };
+    ghost PLACES = { 32 };
 
     ghost bit = { word_bit };
 
@@ -30,33 +26,18 @@ impl KeyKind for Word {
 
     ghost same_bits = { words_same };
 
-    fn kind_code() -> u16 {
-        Self::CODE
-    }
-
-    fn place_count() -> u8 {
-        Self::PLACES
-    }
-
     fn bit_at(self, place: u8) -> bool {
-        if place < PLACES_OF_WORD {
-            (self.light >> (31 - place as u32)) % 2 == 1
-        } else {
-            false
-        }
+        number_bit(u64::from(self.light), Self::PLACES, place)
     }
 
     fn from_number(n: u64) -> Option<Word> {
         bits_write_their_number();
-        if n < WORD_NUMBERS {
-            Some(Word { light: n as u32 })
-        } else {
-            None
-        }
+        let light = u32::try_from(n).ok()?;
+        Some(Word { light })
     }
 
     fn number(self) -> u64 {
         bits_write_their_number();
-        self.light as u64
+        self.light.into()
     }
 }

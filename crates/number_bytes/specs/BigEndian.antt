@@ -15,7 +15,10 @@ from_big_endian bytes = number_from_digits 256 bytes
 abbrev pub Octets : List ℕ → Type 0
 Octets bytes = (i : ℕ) → slice_index bytes i < 256
 
--- k bytes give the number that they write and that is written as these bytes; any other count gives none
-abbrev pub ReadsBytes : ℕ → List ℕ → Option ℕ → Type 0
-ReadsBytes k bytes read =
-    MatchOption read (length bytes ≢ k) (λ n. (length bytes ≡ k) × (n ≡ from_big_endian bytes) × (big_endian k n ≡ bytes))
+-- n is the number that k bytes write, and it is written as these bytes
+abbrev pub WrittenAs : ℕ → List ℕ → ℕ → Type 0
+WrittenAs k bytes n = (length bytes ≡ k) × (n ≡ from_big_endian bytes) × (big_endian k n ≡ bytes)
+
+-- k bytes give the value of the number that they write and that is written as these bytes; any other count gives none
+abbrev pub ReadsNumber : {T : Type 0} → (T → ℕ) → ℕ → List ℕ → Option T → Type 0
+ReadsNumber number k bytes read = MatchOption read (length bytes ≢ k) (λ x. WrittenAs k bytes (number x))

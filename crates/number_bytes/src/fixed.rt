@@ -1,37 +1,59 @@
-// Numbers of exactly two and of exactly four bytes.
-ghost use Rattle.std.specs.Prelude.{◌≡◌};
-ghost use Rattle.number_bytes.specs.BigEndian.{ReadsBytes, big_endian};
+// Numbers of a fixed count of bytes.
+ghost use Rattle.std.specs.Prelude.{◌≡◌, ◌≤◌, ℕ};
+ghost use Rattle.std.proofs.Common.{rules, arith};
+ghost use Rattle.number_bytes.specs.BigEndian.{ReadsNumber, WrittenAs, big_endian};
 
-/// The two bytes of a number, the higher first.
-pub fn two_bytes(n: u16) -> [u8; 2]
-    ensures written { result ≡ big_endian 2 n }
-{
-    u16::to_be_bytes(n)
+/// An unsigned number of `N` bytes, which are written with the highest byte first.
+pub trait FixedWidth<const N: usize>: Copy {
+    // The number as contracts see it.
+    ghost number: { Self → ℕ };
+
+    /// The number's bytes.
+    fn to_bytes(self) -> [u8; N]
+        ensures written { result ≡ big_endian N (number self) };
+
+    /// The number that so many bytes write.
+    fn from_array(bytes: &[u8; N]) -> Self
+        ensures reads_them { WrittenAs N bytes.now (number result) };
+
+    /// The number that the bytes of a slice write, or `None` where there are not `N`.
+    fn from_slice(bytes: &[u8]) -> Option<Self>
+        ensures reads_so_many { ReadsNumber number N bytes.now result }
+    {
+        let Ok(array) = <[u8; N]>::try_from(bytes) else {
+            return None;
+        };
+        Some(Self::from_array(&array))
+    }
+
+    // No number has more than eight bytes, so that every array of its bytes fits the memory.
+    ghost narrow: { N ≤ 8 };
 }
 
-/// The four bytes of a number, the highest first.
-pub fn four_bytes(n: u32) -> [u8; 4]
-    ensures written { result ≡ big_endian 4 n }
-{
-    u32::to_be_bytes(n)
+impl FixedWidth<2> for u16 {
+    ghost number = { λ n. n };
+
+    ghost narrow = { Prim.search rules };
+
+    fn to_bytes(self) -> [u8; 2] {
+        u16::to_be_bytes(self)
+    }
+
+    fn from_array(bytes: &[u8; 2]) -> u16 {
+        u16::from_be_bytes(*bytes)
+    }
 }
 
-/// The number that two bytes write, or `None` where there are not two.
-pub fn from_two_bytes(bytes: &[u8]) -> Option<u16>
-    ensures reads_two { ReadsBytes 2 bytes.now result }
-{
-    let Ok(two) = <[u8; 2]>::try_from(bytes) else {
-        return None;
-    };
-    Some(u16::from_be_bytes(two))
-}
+impl FixedWidth<4> for u32 {
+    ghost number = { λ n. n };
 
-/// The number that four bytes write, or `None` where there are not four.
-pub fn from_four_bytes(bytes: &[u8]) -> Option<u32>
-    ensures reads_four { ReadsBytes 4 bytes.now result }
-{
-    let Ok(four) = <[u8; 4]>::try_from(bytes) else {
-        return None;
-    };
-    Some(u32::from_be_bytes(four))
+    ghost narrow = { Prim.search rules };
+
+    fn to_bytes(self) -> [u8; 4] {
+        u32::to_be_bytes(self)
+    }
+
+    fn from_array(bytes: &[u8; 4]) -> u32 {
+        u32::from_be_bytes(*bytes)
+    }
 }

@@ -5,5 +5,5 @@
 mod fixed;
 mod numbers;
 
-pub use fixed::{four_bytes, from_four_bytes, from_two_bytes, two_bytes};
+pub use fixed::FixedWidth;
 pub use numbers::{read_number, write_number};

@@ -8,6 +8,7 @@ pub fn write_number(n: u64, out: &mut [u8])
     ensures lowest_bytes { out.new ≡ big_endian (length out.old) n }
 {
     let mut rest = n;
+    // By index, since of what a loop over `out.iter_mut().rev()` writes a proof learns nothing.
     for i in (0..out.len()).rev() {
         out[i] = (rest % 256) as u8;
         rest /= 256;

@@ -4,9 +4,7 @@ ghost use Rattle.keys.specs.Binary.{binary_ext, binary_bits_of};
 ghost use Rattle.own_kinds.specs.Same.{buoy_same};
 
 use crate::values::Buoy;
-use keys::{KeyKind, bits_write_their_number};
-
-const BITS: u8 = 20;
+use keys::{KeyKind, bits_write_their_number, number_bit};
 
 const BUOYS: u64 = 0x10_0000;
 
@@ -14,11 +12,11 @@ const BUOYS: u64 = 0x10_0000;
 impl KeyKind for Buoy {
     const CODE: u16 = 200;
 
-    const PLACES: u8 = BITS;
+    const PLACES: u8 = 20;
 
-    ghost code = { 200 };
+    ghost CODE = { 200 };
 
-    ghost places = { 20 };
+    ghost PLACES = { 20 };
 
     ghost bit = { buoy_bit };
 
@@ -33,33 +31,20 @@ impl KeyKind for Buoy {
         buoy_same a b
         (sym (binary_bits_of 20 a.number a.fits) ∙ binary_ext 20 (buoy_bit a) (buoy_bit b) bits ∙ binary_bits_of 20 b.number b.fits) };
 
-    fn kind_code() -> u16 {
-        Self::CODE
-    }
-
-    fn place_count() -> u8 {
-        Self::PLACES
-    }
-
     fn bit_at(self, place: u8) -> bool {
-        if place < BITS {
-            (self.number >> (19 - place as u32)) % 2 == 1
-        } else {
-            false
-        }
+        number_bit(u64::from(self.number), Self::PLACES, place)
     }
 
     fn from_number(n: u64) -> Option<Buoy> {
         bits_write_their_number();
-        if n < BUOYS {
-            Some(Buoy { number: n as u32 })
-        } else {
-            None
+        if n >= BUOYS {
+            return None;
         }
+        Some(Buoy { number: n as u32 })
     }
 
     fn number(self) -> u64 {
         bits_write_their_number();
-        self.number as u64
+        self.number.into()
     }
 }

@@ -15,9 +15,9 @@ impl RecordKind for Charge {
 
     const WIDTH: u8 = 1;
 
-    ghost code = { 200 };
+    ghost CODE = { 200 };
 
-    ghost width = { 1 };
+    ghost WIDTH = { 1 };
 
     ghost bytes = { λ c. c.percent ∷ [] };
 
@@ -32,29 +32,17 @@ impl RecordKind for Charge {
     // charges with the same byte are the same charge; the other laws the prover finds by itself
     ghost distinct = { λ w a b e. charge_same a b (cc) };
 
-    fn kind_code() -> u16 {
-        Self::CODE
-    }
-
-    fn byte_width() -> u8 {
-        Self::WIDTH
-    }
-
     fn write(self, out: &mut [u8]) {
-        if out.len() != 1 {
-            return;
+        if let [byte] = out {
+            *byte = self.percent;
         }
-        out.copy_from_slice(&[self.percent]);
     }
 
     fn read(from: &[u8]) -> Option<Charge> {
-        if from.len() != 1 {
-            return None;
+        match from {
+            [percent] if *percent <= FULL => Some(Charge { percent: *percent }),
+            _ => None,
         }
-        if from[0] > FULL {
-            return None;
-        }
-        Some(Charge { percent: from[0] })
     }
 }
 
@@ -69,10 +57,6 @@ impl Joining for Charge {
     ghost associative = { Prim.search rules };
 
     fn join(self, other: Charge) -> Charge {
-        if other.percent < self.percent {
-            other
-        } else {
-            self
-        }
+        self.min(other)
     }
 }

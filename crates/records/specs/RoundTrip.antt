@@ -5,9 +5,9 @@ use Rattle.records.specs.Model.{RecordModel}
 -- a slice of exactly the kind's width holds the record's bytes, and the very record is read
 abbrev pub ReadsBack : {V : Type 0} → RecordModel V → V → List ℕ → List ℕ → Option V → Type 0
 ReadsBack kind a before after read =
-    kind.width ≤ 64 → length before ≡ kind.width → (after ≡ kind.bytes a) × (read ≡ Some a)
+    kind.WIDTH ≤ 64 → length before ≡ kind.WIDTH → (after ≡ kind.bytes a) × (read ≡ Some a)
 
 -- a slice of any other length stays as it was, and no record is read
 abbrev pub Refuses : {V : Type 0} → RecordModel V → List ℕ → List ℕ → Option V → Type 0
 Refuses kind before after read =
-    kind.width ≤ 64 → (length before ≢ kind.width) → (after ≡ before) × (read ≡ None)
+    kind.WIDTH ≤ 64 → (length before ≢ kind.WIDTH) → (after ≡ before) × (read ≡ None)

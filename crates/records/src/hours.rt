@@ -9,16 +9,16 @@ ghost use Rattle.records.specs.LargerLemmas.{larger_comm};
 use crate::joining::Joining;
 use crate::kind::RecordKind;
 use crate::values::Hours;
-use number_bytes::{four_bytes, from_four_bytes};
+use number_bytes::FixedWidth;
 
 impl RecordKind for Hours {
     const CODE: u16 = 1;
 
     const WIDTH: u8 = 4;
 
-    ghost code = { 1 };
+    ghost CODE = { 1 };
 
-    ghost width = { 4 };
+    ghost WIDTH = { 4 };
 
     ghost bytes = { λ h. big_endian 4 h.count };
 
@@ -32,23 +32,15 @@ impl RecordKind for Hours {
 
     ghost distinct = { λ h a b e. hours_same a b (same_from_bytes 4 a.count b.count a.fits b.fits e) };
 
-    fn kind_code() -> u16 {
-        Self::CODE
-    }
-
-    fn byte_width() -> u8 {
-        Self::WIDTH
-    }
-
     fn write(self, out: &mut [u8]) {
         if out.len() != Self::WIDTH as usize {
             return;
         }
-        out.copy_from_slice(&four_bytes(self.count));
+        out.copy_from_slice(&self.count.to_bytes());
     }
 
     fn read(from: &[u8]) -> Option<Hours> {
-        let count = from_four_bytes(from)?;
+        let count = u32::from_slice(from)?;
         Some(Hours { count })
     }
 }
@@ -63,10 +55,6 @@ impl Joining for Hours {
     ghost associative = { Prim.search rules };
 
     fn join(self, other: Hours) -> Hours {
-        if self.count < other.count {
-            other
-        } else {
-            self
-        }
+        self.max(other)
     }
 }

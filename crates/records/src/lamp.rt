@@ -11,12 +11,12 @@ pub type Lamp = Pair<Hours, Pair<Tags, Setting>>;
 pub fn lamp_width() -> u8
     ensures fourteen_bytes { result ≡ 14 }
 {
-    <Lamp as RecordKind>::byte_width()
+    <Lamp as RecordKind>::WIDTH
 }
 
 /// The code of lamp records.
 pub fn lamp_code() -> u16
     ensures its_code { result ≡ 563 }
 {
-    <Lamp as RecordKind>::kind_code()
+    <Lamp as RecordKind>::CODE
 }

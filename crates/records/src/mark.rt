@@ -11,9 +11,9 @@ impl RecordKind for Mark {
 
     const WIDTH: u8 = 0;
 
-    ghost code = { 4 };
+    ghost CODE = { 4 };
 
-    ghost width = { 0 };
+    ghost WIDTH = { 0 };
 
     ghost bytes = { λ _. [] };
 
@@ -26,14 +26,6 @@ impl RecordKind for Mark {
     ghost octets = { Prim.search rules };
 
     ghost distinct = { Prim.search rules };
-
-    fn kind_code() -> u16 {
-        Self::CODE
-    }
-
-    fn byte_width() -> u8 {
-        Self::WIDTH
-    }
 
     fn write(self, _out: &mut [u8]) {}
 

@@ -14,7 +14,7 @@ use crate::kind::RecordKind;
 use crate::values::Pair;
 
 impl<A: RecordKind, B: RecordKind> RecordKind for Pair<A, B> {
-    // No proof holds the two constants of a pair: they are kept beside the methods, which are proved.
+    // The operators wrap, since a constant is computed before any law is known of the parts' constants.
     const CODE: u16 = A::CODE
         .wrapping_mul(16)
         .wrapping_add(B::CODE)
@@ -26,9 +26,9 @@ impl<A: RecordKind, B: RecordKind> RecordKind for Pair<A, B> {
         65
     };
 
-    ghost code = { pair_code A.RecordKind.code B.RecordKind.code };
+    ghost CODE = { pair_code A.RecordKind.CODE B.RecordKind.CODE };
 
-    ghost width = { pair_width A.RecordKind.width B.RecordKind.width };
+    ghost WIDTH = { pair_width A.RecordKind.WIDTH B.RecordKind.WIDTH };
 
     ghost bytes = { λ p. A.RecordKind.bytes p.first ++ B.RecordKind.bytes p.second };
 
@@ -37,45 +37,35 @@ impl<A: RecordKind, B: RecordKind> RecordKind for Pair<A, B> {
     ghost bounded = { Prim.search rules };
 
     ghost sized = { λ h a.
-        let p = first_narrow A.RecordKind.width B.RecordKind.width h in
-        let q = second_narrow A.RecordKind.width B.RecordKind.width h in
+        let p = first_narrow A.RecordKind.WIDTH B.RecordKind.WIDTH h in
+        let q = second_narrow A.RecordKind.WIDTH B.RecordKind.WIDTH h in
         simp length-append (omega (arith, A.RecordKind.sized p a.first, B.RecordKind.sized q a.second)) };
 
     ghost octets = { λ h a.
-        let p = first_narrow A.RecordKind.width B.RecordKind.width h in
-        let q = second_narrow A.RecordKind.width B.RecordKind.width h in
+        let p = first_narrow A.RecordKind.WIDTH B.RecordKind.WIDTH h in
+        let q = second_narrow A.RecordKind.WIDTH B.RecordKind.WIDTH h in
         octets_append (A.RecordKind.bytes a.first) (B.RecordKind.bytes a.second) (A.RecordKind.octets p a.first) (B.RecordKind.octets q a.second) };
 
     ghost distinct = { unfold pair in
         λ h a b e.
-        let p = first_narrow A.RecordKind.width B.RecordKind.width h in
-        let q = second_narrow A.RecordKind.width B.RecordKind.width h in
+        let p = first_narrow A.RecordKind.WIDTH B.RecordKind.WIDTH h in
+        let q = second_narrow A.RecordKind.WIDTH B.RecordKind.WIDTH h in
         let A' = A.RecordKind in
         let B' = B.RecordKind in
-        let same = split_same A.RecordKind.width _ _ _ _ (A'.sized p a.first) (A'.sized p b.first) e in
+        let same = split_same A.RecordKind.WIDTH _ _ _ _ (A'.sized p a.first) (A'.sized p b.first) e in
         ap₂ pair (A'.distinct p _ _ same.0) (B'.distinct q _ _ same.1) };
 
-    fn kind_code() -> u16 {
-        let code = 256 + 16 * A::kind_code() as u32 + B::kind_code() as u32;
-        (code % 65536) as u16
-    }
-
-    fn byte_width() -> u8 {
-        let width = A::byte_width() + B::byte_width();
-        if width <= 64 { width } else { 65 }
-    }
-
     fn write(self, out: &mut [u8]) {
-        if out.len() != Self::byte_width() as usize {
+        if out.len() != Self::WIDTH as usize {
             return;
         }
-        let mid = A::byte_width() as usize;
+        let mid = A::WIDTH as usize;
         self.first.write(&mut out[0..mid]);
         self.second.write(&mut out[mid..]);
     }
 
     fn read(from: &[u8]) -> Option<Pair<A, B>> {
-        let (front, back) = from.split_at_checked(A::byte_width() as usize)?;
+        let (front, back) = from.split_at_checked(A::WIDTH as usize)?;
         let first = A::read(front)?;
         let second = B::read(back)?;
         Some(Pair { first, second })

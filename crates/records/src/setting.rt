@@ -13,20 +13,14 @@ ghost use Rattle.records.specs.SettingJoinLemmas.{same_from_rank};
 use crate::joining::Joining;
 use crate::kind::RecordKind;
 use crate::values::Setting;
-use number_bytes::{four_bytes, from_four_bytes, from_two_bytes, two_bytes};
+use number_bytes::FixedWidth;
 
 impl Setting {
     /// Whether `other` is the later setting: by stamp, then by source, then by word.
     pub fn is_before(self, other: Setting) -> bool
         ensures by_stamp_source_word { MatchBool result (Before self other) (Before self other → ⊥) }
     {
-        if self.stamp != other.stamp {
-            return self.stamp < other.stamp;
-        }
-        if self.source != other.source {
-            return self.source < other.source;
-        }
-        self.word < other.word
+        self < other
     }
 }
 
@@ -35,9 +29,9 @@ impl RecordKind for Setting {
 
     const WIDTH: u8 = 8;
 
-    ghost code = { 3 };
+    ghost CODE = { 3 };
 
-    ghost width = { 8 };
+    ghost WIDTH = { 8 };
 
     ghost bytes = { λ s. big_endian 4 s.stamp ++ (big_endian 2 s.source ++ big_endian 2 s.word) };
 
@@ -61,21 +55,13 @@ impl RecordKind for Setting {
         (same_from_bytes 2 a.source b.source p.1 q.1 sources.0)
         (same_from_bytes 2 a.word b.word p.2 q.2 sources.1) };
 
-    fn kind_code() -> u16 {
-        Self::CODE
-    }
-
-    fn byte_width() -> u8 {
-        Self::WIDTH
-    }
-
     fn write(self, out: &mut [u8]) {
         if out.len() != Self::WIDTH as usize {
             return;
         }
-        out[0..4].copy_from_slice(&four_bytes(self.stamp));
-        out[4..6].copy_from_slice(&two_bytes(self.source));
-        out[6..8].copy_from_slice(&two_bytes(self.word));
+        out[0..4].copy_from_slice(&self.stamp.to_bytes());
+        out[4..6].copy_from_slice(&self.source.to_bytes());
+        out[6..8].copy_from_slice(&self.word.to_bytes());
     }
 
     fn read(from: &[u8]) -> Option<Setting> {
@@ -85,9 +71,9 @@ impl RecordKind for Setting {
         let (stamp, rest) = from.split_at(4);
         let (source, word) = rest.split_at(2);
         Some(Setting {
-            stamp: from_four_bytes(stamp)?,
-            source: from_two_bytes(source)?,
-            word: from_two_bytes(word)?,
+            stamp: u32::from_slice(stamp)?,
+            source: u16::from_slice(source)?,
+            word: u16::from_slice(word)?,
         })
     }
 }
@@ -105,6 +91,6 @@ impl Joining for Setting {
         ensures joins { result ≡ later_setting self other }
         ensures the_later { Later self other result }
     {
-        if self.is_before(other) { other } else { self }
+        self.max(other)
     }
 }

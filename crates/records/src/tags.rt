@@ -11,16 +11,16 @@ ghost use Rattle.records.specs.OrAssociative.{or_assoc};
 use crate::joining::Joining;
 use crate::kind::RecordKind;
 use crate::values::Tags;
-use number_bytes::{from_two_bytes, two_bytes};
+use number_bytes::FixedWidth;
 
 impl RecordKind for Tags {
     const CODE: u16 = 2;
 
     const WIDTH: u8 = 2;
 
-    ghost code = { 2 };
+    ghost CODE = { 2 };
 
-    ghost width = { 2 };
+    ghost WIDTH = { 2 };
 
     ghost bytes = { λ t. big_endian 2 t.bits };
 
@@ -34,23 +34,15 @@ impl RecordKind for Tags {
 
     ghost distinct = { λ h a b e. tags_same a b (same_from_bytes 2 a.bits b.bits a.fits b.fits e) };
 
-    fn kind_code() -> u16 {
-        Self::CODE
-    }
-
-    fn byte_width() -> u8 {
-        Self::WIDTH
-    }
-
     fn write(self, out: &mut [u8]) {
         if out.len() != Self::WIDTH as usize {
             return;
         }
-        out.copy_from_slice(&two_bytes(self.bits));
+        out.copy_from_slice(&self.bits.to_bytes());
     }
 
     fn read(from: &[u8]) -> Option<Tags> {
-        let bits = from_two_bytes(from)?;
+        let bits = u16::from_slice(from)?;
         Some(Tags { bits })
     }
 }

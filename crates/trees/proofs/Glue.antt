@@ -36,7 +36,7 @@ module _ {K V : Type 0} where
   all_keys_glue P i p k (Some l) (Some r) h g = (h, g)
 
 module _ {K V : Type 0} (κ : KeyModel K) where
-  pub ordered_glue : (least i p : ℕ) (k : K) (l r : Option (Tree K V)) → least ≤ p → p < κ.places → AllKeysIfAny (Side κ p false k) l
+  pub ordered_glue : (least i p : ℕ) (k : K) (l r : Option (Tree K V)) → least ≤ p → p < κ.PLACES → AllKeysIfAny (Side κ p false k) l
       → AllKeysIfAny (Side κ p true k) r
       → OrderedFromIfAny κ (p + 1) l → OrderedFromIfAny κ (p + 1) r → OrderedFromIfAny κ least (glue i p k l r)
   ordered_glue least i p k None None low high hl hr ol or = tt
@@ -45,7 +45,7 @@ module _ {K V : Type 0} (κ : KeyModel K) where
   ordered_glue least i p k (Some l) (Some r) low high hl hr ol or = (low, high, hl, hr, ol, or)
 
   -- the side that a key's bit names, if it is left, has what the key finds
-  pub lookup_glue : (x : K) (b : Bool) (i p : ℕ) (k : K) (l r : Option (Tree K V)) → p < κ.places → AllKeysIfAny (Side κ p false k) l
+  pub lookup_glue : (x : K) (b : Bool) (i p : ℕ) (k : K) (l r : Option (Tree K V)) → p < κ.PLACES → AllKeysIfAny (Side κ p false k) l
       → AllKeysIfAny (Side κ p true k) r
       → κ.bit x p ≡ b → lookup κ (entries_if_any (glue i p k l r)) x ≡ lookup κ (entries_if_any (cond b r l)) x
   lookup_glue x true i p k None None h hl hr e = refl

@@ -36,7 +36,7 @@ module _ {K V : Type 0} (κ : KeyModel K) (join : V → V → V) (x : K) (v : V)
   all_keys_forked P true m u h g = (all_keys_move P a u g, h)
   all_keys_forked P false m u h g = (h, all_keys_move P a u g)
 
-  ordered_forked : (s : Bool) (least m : ℕ) (u : Tree K V) → κ.bit x m ≡ s → least ≤ m → m < κ.places → AllKeys (Side κ m (not s) x) u
+  ordered_forked : (s : Bool) (least m : ℕ) (u : Tree K V) → κ.bit x m ≡ s → least ≤ m → m < κ.PLACES → AllKeys (Side κ m (not s) x) u
       → Ordered κ (m + 1) u → Ordered κ least (forked s m u)
   ordered_forked true least m u e low high h o = (low, high, all_keys_move _ a u h, ((λ q l. refl), e), ordered_move κ (m + 1) a u o, tt)
   ordered_forked false least m u e low high h o = (low, high, ((λ q l. refl), e), all_keys_move _ a u h, tt, ordered_move κ (m + 1) a u o)
@@ -64,7 +64,7 @@ module _ {K V : Type 0} (κ : KeyModel K) (join : V → V → V) (x : K) (v : V)
   pub ordered_fork : (least m : ℕ) (u : Tree K V) → split κ x (key u) ≡ m → m < place κ u → AllKeys (λ j. Agree κ least j x) u
       → Ordered κ least u → Ordered κ least (fork κ x v a b m u)
   ordered_fork least m u e h shared o =
-      let high : m < κ.places = omega (arith, place_within κ least u o) in
+      let high : m < κ.PLACES = omega (arith, place_within κ least u o) in
       let apart = splits_from_all κ x least m u e h o in
       ordered_forked (κ.bit x m) least m u refl (least_before_split κ x least m u high shared apart) high
       (all_keys_weaker (λ j s. split_side κ m x j s high) u apart) (ordered_from_place κ least (m + 1) u (omega arith) o)
@@ -95,7 +95,7 @@ module _ {K V : Type 0} (κ : KeyModel K) (join : V → V → V) (x : K) (v : V)
       ])
 
   -- put into one side, the other is unchanged
-  module _ (y k : K) (i p : ℕ) (l r l' r' : Tree K V) (within : p < κ.places)
+  module _ (y k : K) (i p : ℕ) (l r l' r' : Tree K V) (within : p < κ.PLACES)
       (hl : AllKeys (Side κ p false k) l) (hr : AllKeys (Side κ p true k) r)
       (hl' : AllKeys (Side κ p false k) l') (hr' : AllKeys (Side κ p true k) r') where
     put_aside : (s z : Bool) → κ.bit x p ≡ s → κ.bit y p ≡ z → cond (not s) r' l' ≡ cond (not s) r l
@@ -126,7 +126,7 @@ module _ {K V : Type 0} (κ : KeyModel K) (join : V → V → V) (x : K) (v : V)
     -- the keys of the tree are those that it had, and x
     pub all_keys_grown : (P : K → Type 0) (t : Tree K V) (s : Spot κ x w m t) → P x → AllKeys P t → AllKeys P (grown κ join x v a b w m t s)
     all_keys_grown P (leaf i k u) s h g =
-        elim (ltb m κ.places) as (λ z. AllKeys P (cond z (fork κ x v a b m (leaf i k u)) (leaf i k (join u v))))
+        elim (ltb m κ.PLACES) as (λ z. AllKeys P (cond z (fork κ x v a b m (leaf i k u)) (leaf i k (join u v))))
         [ true ↦ all_keys_fork P m (leaf i k u) h g | false ↦ g ]
     all_keys_grown P (branch i p k l r) (here q) h g = all_keys_fork P m (branch i p k l r) h g
     all_keys_grown P (branch i p k l r) (left q) h g = (all_keys_grown P l q.2 h g.0, g.1)
@@ -136,8 +136,8 @@ module _ {K V : Type 0} (κ : KeyModel K) (join : V → V → V) (x : K) (v : V)
     pub ordered_grown_from : (least : ℕ) (t : Tree K V) (s : Spot κ x w m t) → AllKeys (λ j. Agree κ least j x) t → Ordered κ least t
         → Ordered κ least (grown κ join x v a b w m t s)
     ordered_grown_from least (leaf i k u) s h o =
-        (elim (ltb m κ.places) as (λ z. ltb m κ.places ≡ z → Ordered κ least (cond z (fork κ x v a b m (leaf i k u)) (leaf i k (join u v))))
-        [ true ↦ (λ e. ordered_fork least m (leaf i k u) s.1 (ltb-true m κ.places e) h o) | false ↦ (λ e. tt) ]) refl
+        (elim (ltb m κ.PLACES) as (λ z. ltb m κ.PLACES ≡ z → Ordered κ least (cond z (fork κ x v a b m (leaf i k u)) (leaf i k (join u v))))
+        [ true ↦ (λ e. ordered_fork least m (leaf i k u) s.1 (ltb-true m κ.PLACES e) h o) | false ↦ (λ e. tt) ]) refl
     ordered_grown_from least (branch i p k l r) (here q) h o = ordered_fork least m (branch i p k l r) q.1 q.2 h o
     ordered_grown_from least (branch i p k l r) (left q) h o =
         let side : Side κ p false k x = (agree_split κ p x k q.0, q.1) in (
@@ -164,10 +164,10 @@ module _ {K V : Type 0} (κ : KeyModel K) (join : V → V → V) (x : K) (v : V)
     pub lookup_grown : (y : K) (least : ℕ) (t : Tree K V) (s : Spot κ x w m t) → Ordered κ least t
         → FindsAdded κ join x v y t (grown κ join x v a b w m t s)
     lookup_grown y least (leaf i k u) s o =
-        (elim (ltb m κ.places) as (λ z. ltb m κ.places ≡ z
+        (elim (ltb m κ.PLACES) as (λ z. ltb m κ.PLACES ≡ z
         → FindsAdded κ join x v y (leaf i k u) (cond z (fork κ x v a b m (leaf i k u)) (leaf i k (join u v)))) [
-          | true ↦ (λ e. lookup_fork y least m (leaf i k u) s.1 (ltb-true m κ.places e) o)
-          | false ↦ (λ e. lookup_joined y i k u (split_nowhere κ k x (let e' = s.1 in let h = ltb-false m κ.places e in omega arith)))
+          | true ↦ (λ e. lookup_fork y least m (leaf i k u) s.1 (ltb-true m κ.PLACES e) o)
+          | false ↦ (λ e. lookup_joined y i k u (split_nowhere κ k x (let e' = s.1 in let h = ltb-false m κ.PLACES e in omega arith)))
         ]) refl
     lookup_grown y least (branch i p k l r) (here q) o = lookup_fork y least m (branch i p k l r) q.1 q.2 o
     lookup_grown y least (branch i p k l r) (left q) o =
@@ -180,13 +180,13 @@ module _ {K V : Type 0} (κ : KeyModel K) (join : V → V → V) (x : K) (v : V)
         true (κ.bit y p) q.1 refl refl (lookup_grown y (p + 1) r q.2 o.5)
 
     -- x is absent exactly where it splits from the node at its spot
-    pub spot_absent : (least : ℕ) (t : Tree K V) → Spot κ x w m t → m < κ.places → Ordered κ least t → lookup κ (entries t) x ≡ None
+    pub spot_absent : (least : ℕ) (t : Tree K V) → Spot κ x w m t → m < κ.PLACES → Ordered κ least t → lookup κ (entries t) x ≡ None
     spot_absent least (leaf i k u) s h o = fork_absent least m (leaf i k u) s.1 h o
     spot_absent least (branch i p k l r) (here q) h o = fork_absent least m (branch i p k l r) q.1 q.2 o
     spot_absent least (branch i p k l r) (left q) h o = lookup_side κ x least i p k l r o false q.1 ∙ spot_absent (p + 1) l q.2 h o.4
     spot_absent least (branch i p k l r) (right q) h o = lookup_side κ x least i p k l r o true q.1 ∙ spot_absent (p + 1) r q.2 h o.5
 
-    pub spot_present : (least : ℕ) (t : Tree K V) → Spot κ x w m t → κ.places ≤ m → Ordered κ least t
+    pub spot_present : (least : ℕ) (t : Tree K V) → Spot κ x w m t → κ.PLACES ≤ m → Ordered κ least t
         → (u : V) × (lookup κ (entries t) x ≡ Some u)
     spot_present least (leaf i k u) s h o =
         (u, ap (λ z. cond z (Some u) None) (same_key_true κ k x (split_nowhere κ k x (let e' = s.1 in omega arith))))
@@ -206,48 +206,48 @@ module _ {K V : Type 0} (κ : KeyModel K) (join : V → V → V) (x : K) (v : V)
     -- no tree changes its first node
     pub root_grown : (t : Tree K V) (s : Spot κ x w m t) → root (grown κ join x v a b w m t s) ≡ root t
     root_grown (leaf i k u) s =
-        elim (ltb m κ.places) as (λ z. root (cond z (fork κ x v a b m (leaf i k u)) (leaf i k (join u v))) ≡ i) [ true ↦ refl | false ↦ refl ]
+        elim (ltb m κ.PLACES) as (λ z. root (cond z (fork κ x v a b m (leaf i k u)) (leaf i k (join u v))) ≡ i) [ true ↦ refl | false ↦ refl ]
     root_grown (branch i p k l r) (here q) = refl
     root_grown (branch i p k l r) (left q) = refl
     root_grown (branch i p k l r) (right q) = refl
 
     -- a put of a new key uses the two nodes a and b, one of a key that is there uses none
-    pub uses_grown : (j : ℕ) (t : Tree K V) (s : Spot κ x w m t) → m < κ.places
+    pub uses_grown : (j : ℕ) (t : Tree K V) (s : Spot κ x w m t) → m < κ.PLACES
         → uses j (grown κ join x v a b w m t s) ≡ uses j t + one a j + one b j
     uses_grown j (leaf i k u) s h =
-        ap (λ z. uses j (cond z (fork κ x v a b m (leaf i k u)) (leaf i k (join u v)))) (lt-ltb m κ.places h) ∙ uses_fork j m (leaf i k u)
+        ap (λ z. uses j (cond z (fork κ x v a b m (leaf i k u)) (leaf i k (join u v)))) (lt-ltb m κ.PLACES h) ∙ uses_fork j m (leaf i k u)
     uses_grown j (branch i p k l r) (here q) h = uses_fork j m (branch i p k l r)
     uses_grown j (branch i p k l r) (left q) h = omega (arith, uses_grown j l q.2 h)
     uses_grown j (branch i p k l r) (right q) h = omega (arith, uses_grown j r q.2 h)
 
-    pub uses_joined : (j least : ℕ) (t : Tree K V) (s : Spot κ x w m t) → κ.places ≤ m → Ordered κ least t
+    pub uses_joined : (j least : ℕ) (t : Tree K V) (s : Spot κ x w m t) → κ.PLACES ≤ m → Ordered κ least t
         → uses j (grown κ join x v a b w m t s) ≡ uses j t
     uses_joined j least (leaf i k u) s h o =
-        ap (λ z. uses j (cond z (fork κ x v a b m (leaf i k u)) (leaf i k (join u v)))) (le-ltb m κ.places h)
+        ap (λ z. uses j (cond z (fork κ x v a b m (leaf i k u)) (leaf i k (join u v)))) (le-ltb m κ.PLACES h)
     uses_joined j least (branch i p k l r) (here q) h o = absurd (let before = q.2 in let high = o.1 in omega arith)
     uses_joined j least (branch i p k l r) (left q) h o = omega (arith, uses_joined j (p + 1) l q.2 h o.4)
     uses_joined j least (branch i p k l r) (right q) h o = omega (arith, uses_joined j (p + 1) r q.2 h o.5)
 
-    pub size_grown : (t : Tree K V) (s : Spot κ x w m t) → m < κ.places → size (grown κ join x v a b w m t s) ≡ size t + 2
+    pub size_grown : (t : Tree K V) (s : Spot κ x w m t) → m < κ.PLACES → size (grown κ join x v a b w m t s) ≡ size t + 2
     size_grown (leaf i k u) s h =
-        ap (λ z. size (cond z (fork κ x v a b m (leaf i k u)) (leaf i k (join u v)))) (lt-ltb m κ.places h) ∙ size_fork m (leaf i k u)
+        ap (λ z. size (cond z (fork κ x v a b m (leaf i k u)) (leaf i k (join u v)))) (lt-ltb m κ.PLACES h) ∙ size_fork m (leaf i k u)
     size_grown (branch i p k l r) (here q) h = size_fork m (branch i p k l r)
     size_grown (branch i p k l r) (left q) h = omega (arith, size_grown l q.2 h)
     size_grown (branch i p k l r) (right q) h = omega (arith, size_grown r q.2 h)
 
-    pub size_joined : (least : ℕ) (t : Tree K V) (s : Spot κ x w m t) → κ.places ≤ m → Ordered κ least t
+    pub size_joined : (least : ℕ) (t : Tree K V) (s : Spot κ x w m t) → κ.PLACES ≤ m → Ordered κ least t
         → size (grown κ join x v a b w m t s) ≡ size t
     size_joined least (leaf i k u) s h o =
-        ap (λ z. size (cond z (fork κ x v a b m (leaf i k u)) (leaf i k (join u v)))) (le-ltb m κ.places h)
+        ap (λ z. size (cond z (fork κ x v a b m (leaf i k u)) (leaf i k (join u v)))) (le-ltb m κ.PLACES h)
     size_joined least (branch i p k l r) (here q) h o = absurd (let before = q.2 in let high = o.1 in omega arith)
     size_joined least (branch i p k l r) (left q) h o = omega (arith, size_joined (p + 1) l q.2 h o.4)
     size_joined least (branch i p k l r) (right q) h o = omega (arith, size_joined (p + 1) r q.2 h o.5)
 
     -- so a put adds one entry or none
-    pub length_grown : (t : Tree K V) (s : Spot κ x w m t) → m < κ.places
+    pub length_grown : (t : Tree K V) (s : Spot κ x w m t) → m < κ.PLACES
         → length (entries (grown κ join x v a b w m t s)) ≡ length (entries t) + 1
     length_grown t s h = omega (arith, size_grown t s h, size_entries t, size_entries (grown κ join x v a b w m t s))
 
-    pub length_joined : (least : ℕ) (t : Tree K V) (s : Spot κ x w m t) → κ.places ≤ m → Ordered κ least t
+    pub length_joined : (least : ℕ) (t : Tree K V) (s : Spot κ x w m t) → κ.PLACES ≤ m → Ordered κ least t
         → length (entries (grown κ join x v a b w m t s)) ≡ length (entries t)
     length_joined least t s h o = omega (arith, size_joined least t s h o, size_entries t, size_entries (grown κ join x v a b w m t s))

@@ -27,7 +27,7 @@ module _ {K : Type 0} (κ : KeyModel K) where
   same_key_false a b d = ne_eqb (number κ a) (number κ b) d
 
   -- keys whose bits differ in a place have two numbers
-  pub numbers_differ : (a b : K) (p : ℕ) → p < κ.places → (κ.bit a p ≡ κ.bit b p → ⊥) → number κ a ≡ number κ b → ⊥
+  pub numbers_differ : (a b : K) (p : ℕ) → p < κ.PLACES → (κ.bit a p ≡ κ.bit b p → ⊥) → number κ a ≡ number κ b → ⊥
   numbers_differ a b p h d e = d (number_bits κ a b e p h)
 
 module _ {K V : Type 0} (κ : KeyModel K) (x : K) where
@@ -49,13 +49,13 @@ module _ {K V : Type 0} (κ : KeyModel K) (x : K) where
   lookup_tree_none t h = lookup_none (entries t) (all_keys_entries _ t h)
 
   -- on a side that its bit does not name, a key finds nothing
-  pub lookup_other_side : (p : ℕ) (b : Bool) (k : K) (t : Tree K V) → p < κ.places → AllKeys (Side κ p b k) t → κ.bit x p ≡ not b
+  pub lookup_other_side : (p : ℕ) (b : Bool) (k : K) (t : Tree K V) → p < κ.PLACES → AllKeys (Side κ p b k) t → κ.bit x p ≡ not b
       → lookup κ (entries t) x ≡ None
   lookup_other_side p b k t within h e =
       lookup_tree_none t (all_keys_weaker (λ j s. numbers_differ κ j x p within (λ same. bit_is_not b (sym s.1 ∙ same ∙ e))) t h)
 
   -- the side that the key's bit names has what the key finds
-  pub lookup_sides : (p : ℕ) (k : K) (l r : Tree K V) → p < κ.places → AllKeys (Side κ p false k) l → AllKeys (Side κ p true k) r
+  pub lookup_sides : (p : ℕ) (k : K) (l r : Tree K V) → p < κ.PLACES → AllKeys (Side κ p false k) l → AllKeys (Side κ p true k) r
       → (b : Bool) → κ.bit x p ≡ b → lookup κ (entries l ++ entries r) x ≡ lookup κ (entries (cond b r l)) x
   lookup_sides p k l r within hl hr true e =
       lookup_append (entries l) (entries r) ∙ ap (λ o. option_or o (lookup κ (entries r) x)) (lookup_other_side p false k l within hl e)

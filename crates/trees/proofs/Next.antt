@@ -55,7 +55,7 @@ module _ {K V : Type 0} (κ : KeyModel K) where
   first_after_other_leaf b i k v h = ap (λ z. cond z (Some (k, v)) None) (le-ltb (number κ b) (number κ k) h)
 
   module _ (least m : ℕ) (b : K) (t : Tree K V) (o : Ordered κ least t) (splits : split κ b (key t) ≡ m) (before : m < place κ t) where
-    high : m < κ.places
+    high : m < κ.PLACES
     high = omega (arith, place_within κ least t o)
 
     -- a bound that leaves the prefix of a tree on side 0 has all keys after it

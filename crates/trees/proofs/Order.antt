@@ -13,7 +13,7 @@ module _ {K : Type 0} (κ : KeyModel K) where
   pub agree_split : (p : ℕ) (j k : K) → p ≤ split κ j k → Agree κ p j k
   agree_split p j k h q l = split_same κ j k q (omega arith)
 
-  pub split_agree : (p : ℕ) (j k : K) → p ≤ κ.places → Agree κ p j k → p ≤ split κ j k
+  pub split_agree : (p : ℕ) (j k : K) → p ≤ κ.PLACES → Agree κ p j k → p ≤ split κ j k
   split_agree p j k h = split_beyond κ j k p h
 
   -- two keys on one side of a place agree in it too
@@ -34,11 +34,11 @@ module _ {K V : Type 0} (κ : KeyModel K) where
   ordered_from_place least below (leaf i k v) h o = tt
   ordered_from_place least below (branch i p k l r) h o = (h, o.1, o.2, o.3, o.4, o.5)
 
-  pub place_within : (least : ℕ) (t : Tree K V) → Ordered κ least t → place κ t ≤ κ.places
+  pub place_within : (least : ℕ) (t : Tree K V) → Ordered κ least t → place κ t ≤ κ.PLACES
   place_within least (leaf i k v) o = omega arith
   place_within least (branch i p k l r) o = omega (arith, o.1)
 
-  pub least_place : (least : ℕ) (t : Tree K V) → least ≤ κ.places → Ordered κ least t → least ≤ place κ t
+  pub least_place : (least : ℕ) (t : Tree K V) → least ≤ κ.PLACES → Ordered κ least t → least ≤ place κ t
   least_place least (leaf i k v) h o = h
   least_place least (branch i p k l r) h o = o.0
 

@@ -31,16 +31,16 @@ module _ {K : Type 0} (κ : KeyModel K) where
       (cases_lt (split κ x a) (split κ x b))
 
   -- keys that split nowhere have one number
-  pub split_nowhere : (j x : K) → κ.places ≤ split κ x j → number κ j ≡ number κ x
-  split_nowhere j x h = binary_ext κ.places (κ.bit j) (κ.bit x) (λ q l. sym (split_same κ x j q (omega arith)))
+  pub split_nowhere : (j x : K) → κ.PLACES ≤ split κ x j → number κ j ≡ number κ x
+  split_nowhere j x h = binary_ext κ.PLACES (κ.bit j) (κ.bit x) (λ q l. sym (split_same κ x j q (omega arith)))
 
   -- keys split no earlier than they agree
-  pub agree_before_split : (p : ℕ) (j x : K) → Agree κ p j x → split κ x j < κ.places → p ≤ split κ x j
+  pub agree_before_split : (p : ℕ) (j x : K) → Agree κ p j x → split κ x j < κ.PLACES → p ≤ split κ x j
   agree_before_split p j x a h =
       ⊎_elim (λ l. absurd (split_differ κ x j h (sym (a (split κ x j) l)))) (λ l. l) (cases_lt (split κ x j) p)
 
   -- of two keys that split at m, each stands on its own side of m
-  pub split_side : (m : ℕ) (x j : K) → split κ x j ≡ m → m < κ.places → Side κ m (not (κ.bit x m)) x j
+  pub split_side : (m : ℕ) (x j : K) → split κ x j ≡ m → m < κ.PLACES → Side κ m (not (κ.bit x m)) x j
   split_side m x j e h = (
     (λ q l. sym (split_same κ x j q (omega arith))),
     turned_bit (κ.bit x m) (κ.bit j m) (subst (λ n. κ.bit x n ≡ κ.bit j n → ⊥) e (split_differ κ x j (omega arith))),
@@ -55,7 +55,7 @@ module _ {K V : Type 0} (κ : KeyModel K) (x : K) where
       t (keys_agree κ least t o)
 
   -- a key apart from all of a tree's keys finds nothing there
-  pub lookup_apart : (m : ℕ) (t : Tree K V) → m < κ.places → AllKeys (λ j. split κ x j ≡ m) t → lookup κ (entries t) x ≡ None
+  pub lookup_apart : (m : ℕ) (t : Tree K V) → m < κ.PLACES → AllKeys (λ j. split κ x j ≡ m) t → lookup κ (entries t) x ≡ None
   lookup_apart m t h a =
       lookup_tree_none κ x t (all_keys_weaker (λ j e. numbers_differ κ j x m h (λ same. apart j e (sym same))) t a)
     where
@@ -63,7 +63,7 @@ module _ {K V : Type 0} (κ : KeyModel K) (x : K) where
       apart j e = subst (λ n. κ.bit x n ≡ κ.bit j n → ⊥) e (split_differ κ x j (omega arith))
 
   -- what all keys share with x ends at the split or before
-  pub least_before_split : (least m : ℕ) (t : Tree K V) → m < κ.places → AllKeys (λ j. Agree κ least j x) t
+  pub least_before_split : (least m : ℕ) (t : Tree K V) → m < κ.PLACES → AllKeys (λ j. Agree κ least j x) t
       → AllKeys (λ j. split κ x j ≡ m) t → least ≤ m
   least_before_split least m t h a s =
       let some = some_key _ t (all_keys_both _ _ t a s) in

@@ -12,7 +12,7 @@ use Rattle.trees.proofs.AllKeys.{all_keys_entries, all_parts}
 
 module _ {K : Type 0} (κ : KeyModel K) where
   -- keys on side 0 come before keys on side 1
-  pub sides_precede : (p : ℕ) (k i j : K) → p < κ.places → Side κ p false k i → Side κ p true k j → Precedes κ i j
+  pub sides_precede : (p : ℕ) (k i j : K) → p < κ.PLACES → Side κ p false k i → Side κ p true k j → Precedes κ i j
   sides_precede p k i j within h g =
       let first : FirstDifference κ i j p = record {
         within = within;
@@ -52,7 +52,7 @@ module _ {K V : Type 0} (κ : KeyModel K) where
       let rest = rising_parts es fs (rising_tail e (es ++ fs) h) in
       (rising_cons e es later.0 rest.0, rest.1, (later.1, rest.2))
 
-  pub sides_all_before : (p : ℕ) (k : K) (l r : Tree K V) → p < κ.places → AllKeys (Side κ p false k) l → AllKeys (Side κ p true k) r
+  pub sides_all_before : (p : ℕ) (k : K) (l r : Tree K V) → p < κ.PLACES → AllKeys (Side κ p false k) l → AllKeys (Side κ p true k) r
       → AllBefore (entries l) (entries r)
   sides_all_before p k l r within hl hr =
       All-weaker _ _

@@ -178,7 +178,7 @@ module _ {K V : Type 0} (κ : KeyModel K) (join : V → V → V) where
         ) refl
 
   -- two trees that part at m: a new branch over both at the first tree's node
-  pub union_apart : (b : Bool) (least m a : ℕ) (c : K) (t u : Tree K V) → least ≤ m → m < κ.places → AllKeys (Side κ m b c) t
+  pub union_apart : (b : Bool) (least m a : ℕ) (c : K) (t u : Tree K V) → least ≤ m → m < κ.PLACES → AllKeys (Side κ m b c) t
       → AllKeys (Side κ m (not b) c) u
       → Ordered κ (m + 1) t → Ordered κ (m + 1) u → Union κ join least t u (branch (root t) m c (cond b u (move a t)) (cond b (move a t) u))
   union_apart true least m a c t u low high ht hu ot ou = record {

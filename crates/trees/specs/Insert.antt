@@ -31,7 +31,7 @@ module _ {K V : Type 0} (κ : KeyModel K) where
 
   -- the tree with v put at x: a leaf of that key joins v to its record, any other node at the spot gives way to a fork
   abbrev pub grown : (V → V → V) → (x : K) → V → ℕ → ℕ → (w m : ℕ) → (t : Tree K V) → Spot x w m t → Tree K V
-  grown join x v a b w m (leaf i k u) s = cond (nat_lt m κ.places) (fork x v a b m (leaf i k u)) (leaf i k (join u v))
+  grown join x v a b w m (leaf i k u) s = cond (nat_lt m κ.PLACES) (fork x v a b m (leaf i k u)) (leaf i k (join u v))
   grown join x v a b w m (branch i p k l r) (here h) = fork x v a b m (branch i p k l r)
   grown join x v a b w m (branch i p k l r) (left h) = branch i p k (grown join x v a b w m l h.2) r
   grown join x v a b w m (branch i p k l r) (right h) = branch i p k l (grown join x v a b w m r h.2)

@@ -19,11 +19,11 @@ module _ {K V : Type 0} (κ : KeyModel K) where
   abbrev pub Ordered : ℕ → Tree K V → Type 0
   Ordered least (leaf i k v) = Unit {0}
   Ordered least (branch i p k l r) =
-      (least ≤ p) × (p < κ.places) × AllKeys (Side κ p false k) l × AllKeys (Side κ p true k) r × Ordered (p + 1) l × Ordered (p + 1) r
+      (least ≤ p) × (p < κ.PLACES) × AllKeys (Side κ p false k) l × AllKeys (Side κ p true k) r × Ordered (p + 1) l × Ordered (p + 1) r
 
   -- where a tree parts: a branch at its place, a leaf at none, which counts as the number of places
   abbrev pub place : Tree K V → ℕ
-  place (leaf i k v) = κ.places
+  place (leaf i k v) = κ.PLACES
   place (branch i p k l r) = p
 
   abbrev pub OrderedIfAny : Option (Tree K V) → Type 0

@@ -55,9 +55,9 @@ pub record Values : Type 0 where
   pub cell_order : Precedes cell_kind (cell 1 1 (lit< tt) (lit< tt)) (cell 0 2 (lit< tt) (lit< tt))
   pub more_hours : hours_join.joined (hours 120 (lit< tt)) (hours 90 (lit< tt)) ≡ hours 120 (lit< tt)
   pub later_setting : setting_join.joined (setting 10 1 7 (lit< tt) (lit< tt) (lit< tt)) (setting 10 2 3 (lit< tt) (lit< tt) (lit< tt)) ≡ setting 10 2 3 (lit< tt) (lit< tt) (lit< tt)
-  pub pair_of_tags_and_setting : pair_code tags_kind.code setting_kind.code ≡ 291
-  pub lamp_code : pair_code hours_kind.code (pair_code tags_kind.code setting_kind.code) ≡ 563
-  pub lamp_width : pair_width hours_kind.width (pair_width tags_kind.width setting_kind.width) ≡ 14
+  pub pair_of_tags_and_setting : pair_code tags_kind.CODE setting_kind.CODE ≡ 291
+  pub lamp_code : pair_code hours_kind.CODE (pair_code tags_kind.CODE setting_kind.CODE) ≡ 563
+  pub lamp_width : pair_width hours_kind.WIDTH (pair_width tags_kind.WIDTH setting_kind.WIDTH) ≡ 14
   -- a pool of three: lights 3 and 5 leave no node free, a third light is refused, news of light 3 is not
   pub pool_of_three : told word_kind marks (opened 3) (put_word 3 (lit< tt) ∷ put_word 5 (lit< tt) ∷ Free ∷ put_word 9 (lit< tt) ∷ put_word 3 (lit< tt) ∷ Count 0 ∷ [])
       ≡ Done ∷ Done ∷ Number 0 ∷ Refused TooFewNodes ∷ Done ∷ Number 2 ∷ []

@@ -14,9 +14,9 @@ impl RecordKind for Wide {
 
     const WIDTH: u8 = 65;
 
-    ghost code = { 9 };
+    ghost CODE = { 9 };
 
-    ghost width = { 65 };
+    ghost WIDTH = { 65 };
 
     ghost bytes = { λ _. [] };
 
@@ -29,14 +29,6 @@ impl RecordKind for Wide {
     ghost octets = { Prim.search rules };
 
     ghost distinct = { Prim.search rules };
-
-    fn kind_code() -> u16 {
-        Self::CODE
-    }
-
-    fn byte_width() -> u8 {
-        Self::WIDTH
-    }
 
     fn write(self, _out: &mut [u8]) {}
 

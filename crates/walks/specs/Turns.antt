@@ -10,4 +10,4 @@ use Rattle.walks.specs.declared.turn.Turn.TheVariants.{After, Before, Along}
 abbrev pub Turns : {K : Type 0} → KeyModel K → K → K → ℕ → Turn → Type 0
 Turns κ bound k p After = (split κ bound k < p) × (κ.bit bound (split κ bound k) ≡ false)
 Turns κ bound k p Before = (split κ bound k < p) × (κ.bit bound (split κ bound k) ≡ true)
-Turns κ bound k p (Along one) = (p < κ.places → p ≤ split κ bound k) × (κ.bit bound p ≡ one)
+Turns κ bound k p (Along one) = (p < κ.PLACES → p ≤ split κ bound k) × (κ.bit bound p ≡ one)

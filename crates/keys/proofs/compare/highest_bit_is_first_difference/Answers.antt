@@ -15,7 +15,7 @@ returns g c =
     let b = c.args.b in
     record {
       equal_numbers = λ x y n e.
-          let same : a ≡ b = g.met.K.KeyKind.same_bits a b (binary_same κ.places (κ.bit a) (κ.bit b) (sym n.first ∙ xor_same x y e ∙ n.second)) in
+          let same : a ≡ b = g.met.K.KeyKind.same_bits a b (binary_same κ.PLACES (κ.bit a) (κ.bit b) (sym n.first ∙ xor_same x y e ∙ n.second)) in
           (same, ap (split κ a) (sym same) ∙ split_refl κ a);
       zeros_past_idle_places = λ x y w n e some.
           let l = led κ a b x y n.first n.second g.met.K.KeyKind.places_bounded.1 (omega arith) in

@@ -1,13 +1,7 @@
-use Rattle.std.proofs.Common.{◌≡◌, ℕ, zero, suc, ◌+◌, ◌-◌, ◌/◌, ◌%◌, ◌<◌, ◌≤◌, List, [], ◌∷◌, ◌++◌, length, drop, set, sym, refl, ap, ◌∙◌, ap₂, append_assoc, append-nil, arith}
-use Rattle.std.proofs.lemmas.List.{drop_all, drop-set}
+use Rattle.std.proofs.Common.{◌≡◌, ℕ, zero, suc, ◌+◌, ◌-◌, ◌/◌, ◌%◌, ◌<◌, ◌≤◌, List, [], ◌∷◌, ◌++◌, length, drop, set, sym, refl, ap, ◌∙◌, ap₂, append_assoc, arith}
+use Rattle.std.proofs.lemmas.List.{drop-set}
 use Rattle.number_bytes.specs.BigEndian.{big_endian}
 use Rattle.number_bytes.proofs.numbers.write_number.Goals as goal
-
-pub loop-i-init : goal.loop-i-init
-loop-i-init c =
-    let l = c.args.out.now in
-    let all = big_endian (length l) c.args.n in
-    ap (λ (t : List ℕ). all ++ t) (drop_all (length l) l (omega arith)) ∙ append-nil all
 
 -- one turn: the lowest byte of what is left goes before what stands
 step : (k n : ℕ) (l : List ℕ) → k < length l
