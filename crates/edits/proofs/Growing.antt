@@ -36,10 +36,10 @@ module _ {K V : Type 0} (κ : KeyModel K) (join : V → V → V) (x : K) (v : V)
         let count : ℕ → ℕ = λ j. uses j t in
         stands_kept ns ns' t (λ j h. keep j (apart count w j hw h) (apart count a j ha h) (apart count b j hb h))
 
-    pub stands_grown : (t : Tree K V) (s : Spot κ x w m t) → m < κ.places → ((j : ℕ) → uses j t ≤ 1) → uses a t ≡ 0 → uses b t ≡ 0
+    pub stands_grown : (t : Tree K V) (s : Spot κ x w m t) → m < κ.PLACES → ((j : ℕ) → uses j t ≤ 1) → uses a t ≡ 0 → uses b t ≡ 0
         → Stands ns t → Stands ns' (grown κ join x v a b w m t s)
     stands_grown (leaf i k u) s lt once na nb st =
-        rw (lt-ltb m κ.places lt) (stands_fork (leaf i k u) s.0 (moved (Leaf k u) (at_same ns w i _ _ (sym s.0) refl st)))
+        rw (lt-ltb m κ.PLACES lt) (stands_fork (leaf i k u) s.0 (moved (Leaf k u) (at_same ns w i _ _ (sym s.0) refl st)))
     stands_grown (branch i p k l r) (here q) lt once na nb st =
         let iw = one_same i w q.0 in
         let ow = once w in
@@ -72,10 +72,10 @@ module _ {K V : Type 0} (κ : KeyModel K) (join : V → V → V) (x : K) (v : V)
     stays_joined t hw = let count : ℕ → ℕ = λ j. uses j t in stands_kept ns ns' t (λ j h. keep j (apart count w j hw h))
 
     -- a leaf whose record is joined
-    pub stands_joined : (least : ℕ) (t : Tree K V) (s : Spot κ x w m t) → κ.places ≤ m → Ordered κ least t → ((j : ℕ) → uses j t ≤ 1)
+    pub stands_joined : (least : ℕ) (t : Tree K V) (s : Spot κ x w m t) → κ.PLACES ≤ m → Ordered κ least t → ((j : ℕ) → uses j t ≤ 1)
         → Stands ns t → Stands ns' (grown κ join x v a b w m t s)
     stands_joined least (leaf i k u) s ge o once st =
-        rw (le-ltb m κ.places ge) (at_same ns' i w _ _ s.0 refl (joins k u (at_same ns w i _ _ (sym s.0) refl st)))
+        rw (le-ltb m κ.PLACES ge) (at_same ns' i w _ _ s.0 refl (joins k u (at_same ns w i _ _ (sym s.0) refl st)))
     stands_joined least (branch i p k l r) (here q) ge o once st = absurd (let before = q.2 in let high = o.1 in omega arith)
     stands_joined least (branch i p k l r) (left q) ge o once st =
         let used = spot_used κ join x v a b w m l q.2 in
@@ -98,7 +98,7 @@ module _ {K V : Type 0} (κ : KeyModel K) (join : V → V → V) (x : K) (v : V)
 module _ {K V : Type 0} (κ : KeyModel K) (join : V → V → V) (x : K) (v : V) (ns ns' : List (Node K V)) (w m : ℕ) (t : Tree K V)
     (st : Stands ns t) (o : Ordered κ 0 t) (s : Spot κ x w m t) where
   -- a new leaf at b, under a branch at w, from which the node moves to a
-  pub left_forked : (a b : ℕ) (rest : List ℕ) (old : Node K V) (before after : Account) → m < κ.places → At ns w old → a < length ns → b < length ns
+  pub left_forked : (a b : ℕ) (rest : List ℕ) (old : Node K V) (before after : Account) → m < κ.PLACES → At ns w old → a < length ns → b < length ns
       → Chain ns after.head rest → length rest ≡ after.free → after.capacity ≡ before.capacity
       → ((j : ℕ) → uses j t + times j (a ∷ (b ∷ rest)) ≤ 1)
       → ns' ≡ set (set (set ns a old) b (Leaf x v)) w (Branch m x (cond (κ.bit x m) a b) (cond (κ.bit x m) b a))
@@ -148,7 +148,7 @@ module _ {K V : Type 0} (κ : KeyModel K) (join : V → V → V) (x : K) (v : V)
       }
 
   -- the record of the leaf at w joined with v
-  pub left_joined : (chain : List ℕ) (k : K) (u : V) (account : Account) → κ.places ≤ m → At ns w (Leaf k u)
+  pub left_joined : (chain : List ℕ) (k : K) (u : V) (account : Account) → κ.PLACES ≤ m → At ns w (Leaf k u)
       → Chain ns account.head chain → length chain ≡ account.free → ((j : ℕ) → uses j t + times j chain ≤ 1)
       → ns' ≡ set ns w (Leaf k (join u v))
       → Left κ ns ns' (with_update κ join x v (Some t)) (owned (Some t) chain) account account (Some (root t))

@@ -94,13 +94,13 @@ module _ {K V : Type 0} (κ : KeyModel K) (ns₀ : List (Node K V)) (before : Ac
     first_not_free n a = first ⊥ (λ t ts s e o room. none_at_free ns at n a t s e)
 
     -- no more wait than there are places
-    pub first_few : κ.places ≤ 64 → (q : ℕ) (k : K) (left right : ℕ) → At ns at (Branch q k left right) → 64 ≤ length is → ⊥
+    pub first_few : κ.PLACES ≤ 64 → (q : ℕ) (k : K) (left right : ℕ) → At ns at (Branch q k left right) → 64 ≤ length is → ⊥
     first_few few q k left right a full = first ⊥ go where
       go : (t : Tree K V) (ts : List (Tree K V)) → Stands ns t → root t ≡ at → Ordered κ (length is) t → size t + size_all ts + length p.chain ≤ account.capacity → ⊥
       go (leaf i k' v) ts s e o room = let same = one_node ns i at _ _ e s a in let z : ◌≡◌ {A = ℕ} 0 1 = cc in omega arith
       go (branch i q' k' l r) ts s e o room = omega (arith, o.0, o.1)
 
-    pub first_not_stuck : κ.places ≤ 64 → (x : Node K V) → At ns at x → Stuck x is → ⊥
+    pub first_not_stuck : κ.PLACES ≤ 64 → (x : Node K V) → At ns at x → Stuck x is → ⊥
     first_not_stuck few (Free n) a s = first_not_free n a
     first_not_stuck few (Leaf k v) a s = s
     first_not_stuck few (Branch q k left right) a s = first_few few q k left right a s

@@ -62,11 +62,11 @@ module _ {K V : Type 0} (κ : KeyModel K) (ns : List (Node K V)) (x : K) (least 
           sought_on_side κ ns x at p k l r h false e a (next l sl (el ∙ ap (λ z. cond z one_side zero_side) (sym e)) o.4)
 
   -- at a leaf of the key
-  pub sought_taken : (k : K) (v : V) → At ns at (Leaf k v) → κ.places ≤ split κ x k → Whatever κ ns (Sought κ ns x (Ok (Taken at k v))) least at
+  pub sought_taken : (k : K) (v : V) → At ns at (Leaf k v) → κ.PLACES ≤ split κ x k → Whatever κ ns (Sought κ ns x (Ok (Taken at k v))) least at
   sought_taken k v read h = whatever_leaf κ ns (Sought κ ns x (Ok (Taken at k v))) least at k v read (read, (refl, omega (arith, split_le κ x k)))
 
   -- at a leaf of another key
-  pub sought_other_leaf : (k : K) (v : V) (m : ℕ) → At ns at (Leaf k v) → split κ x k ≡ m → m < κ.places → Whatever κ ns (Sought κ ns x (Ok (Open at m))) least at
+  pub sought_other_leaf : (k : K) (v : V) (m : ℕ) → At ns at (Leaf k v) → split κ x k ≡ m → m < κ.PLACES → Whatever κ ns (Sought κ ns x (Ok (Open at m))) least at
   sought_other_leaf k v m read e h = whatever_leaf κ ns (Sought κ ns x (Ok (Open at m))) least at k v read (read.0, h, (refl, e))
 
   -- at a branch whose prefix the key does not share

@@ -87,5 +87,5 @@ pub inserted_join : {K V : Type 0} (κ : KeyModel K) (join : V → V → V) (x :
 inserted_join κ join x v ns ns' account top i k u None chain rooted beside seated written = absurd seated
 inserted_join κ join x v ns ns' account top i k u (Some t) chain rooted beside seated written =
     subst (λ (n : ℕ). Left κ ns ns' (with_update κ join x v (Some t)) (owned (Some t) chain) account account (Some n)) (sym (some_inj top (root t) rooted.rooted))
-    (left_joined κ join x v ns ns' i κ.places t rooted.stands rooted.ordered seated.1 chain k u account (omega arith) seated.0
+    (left_joined κ join x v ns ns' i κ.PLACES t rooted.stands rooted.ordered seated.1 chain k u account (omega arith) seated.0
     beside.linked beside.counted beside.once (written seated.0.0))

@@ -15,8 +15,8 @@ use Rattle.edits.specs.declared.landing.Landing.{Landing}
 module _ {K V : Type 0} (κ : KeyModel K) (ns : List (Node K V)) (x : K) where
   -- a seat is where x belongs in a tree: the leaf there has the key, or x splits from the node there at the place
   abbrev pub Seated : Seat K V → Tree K V → Type 0
-  Seated (Taken i k v) t = At ns i (Leaf k v) × Spot κ x i κ.places t
-  Seated (Open i place) t = (i < length ns) × (place < κ.places) × Spot κ x i place t
+  Seated (Taken i k v) t = At ns i (Leaf k v) × Spot κ x i κ.PLACES t
+  Seated (Open i place) t = (i < length ns) × (place < κ.PLACES) × Spot κ x i place t
 
   -- the same of a map, which must have a tree; an open seat is that of a key that the map has not
   abbrev pub SeatedIfAny : Seat K V → Option (Tree K V) → Type 0

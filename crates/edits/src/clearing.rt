@@ -1,6 +1,5 @@
 ghost use Rattle.std.specs.Prelude.{ℕ, ◌+◌, List, Some, None, Option, MatchResult};
 ghost use Rattle.trees.specs.Tree.{Tree, uses, uses_if_any, times};
-ghost use Rattle.pool.specs.Stacks.{stacked};
 ghost use Rattle.pool.specs.Walks.{Rooted, Beside, Left};
 ghost use Rattle.edits.specs.Clears.{Queued};
 
@@ -13,7 +12,7 @@ fn after_node<K: Copy, V: Copy>(
     node: Node<K, V>,
     waiting: &mut Stack<u16>,
 ) -> Result<Option<u16>, OutOfOrder>
-    ensures sides_before_others { Queued node (stacked waiting.old.items waiting.old.height) (stacked waiting.new.items waiting.new.height) result }
+    ensures sides_before_others { Queued node waiting.old waiting.new result }
 {
     match node {
         Node::Free { .. } => Err(OutOfOrder),

@@ -33,7 +33,7 @@ pub fn descend<K: KeyKind, V: Copy>(
 ) -> Result<Landing<K, V>, OutOfOrder>
     ensures where_the_bits_lead { (map : Option (Tree K V)) → Rooted (K.KeyKind) nodes.now (Some top) map → MatchResult result (λ d. LandsIfAny (K.KeyKind) key d map) (λ _. ⊥) }
 {
-    let places = K::place_count();
+    let places = K::PLACES;
     let mut at = top;
     let mut least = 0;
     let mut parent = None;

@@ -21,7 +21,7 @@ pub enum Seat<K, V> {
 
 // The place at which two keys split, if it comes before `place`.
 fn split_before<K: KeyKind>(a: K, b: K, place: u8) -> Option<u8>
-    ensures split_or_later { place ≤ K.KeyKind.places → MatchOption result (place ≤ split (K.KeyKind) a b) (λ m. (split (K.KeyKind) a b ≡ m) × (m < place)) }
+    ensures split_or_later { place ≤ K.KeyKind.PLACES → MatchOption result (place ≤ split (K.KeyKind) a b) (λ m. (split (K.KeyKind) a b ≡ m) × (m < place)) }
 {
     match first_difference(a, b) {
         Some(m) if m < place => Some(m),
@@ -38,7 +38,7 @@ pub fn seek<K: KeyKind, V: Copy>(
 ) -> Result<Seat<K, V>, OutOfOrder>
     ensures where_the_key_belongs { (map : Option (Tree K V)) → Rooted (K.KeyKind) nodes.now (Some top) map → MatchResult result (λ s. SeatedIfAny (K.KeyKind) nodes.now key s map) (λ _. ⊥) }
 {
-    let places = K::place_count();
+    let places = K::PLACES;
     let mut at = top;
     let mut least = 0;
     loop {

@@ -6,9 +6,9 @@ ghost use Rattle.pool.specs.declared.node.Node.{Node};
 ghost use Rattle.pool.specs.Machine.{Machine, list_of, record_at, next_of, count_of, free_in};
 ghost use Rattle.pool.specs.Promises.{Asked};
 
-use crate::row::{SHELVES, row_of};
+use crate::row::row_of;
 use keys::KeyKind;
-use pool::{Book, CountRefusal, Node, WalkRefusal};
+use pool::{Book, CountRefusal, Node, SHELVES, WalkRefusal};
 use records::RecordKind;
 
 /// The record at a key of a shelf, or none.

@@ -1,9 +1,6 @@
 ghost use Rattle.maps.specs.Rows.{RowOf};
 
-use pool::{Book, Node, Shelf, WalkRefusal};
-
-/// How many shelves a book has.
-pub const SHELVES: u8 = 8;
+use pool::{Book, Node, SHELVES, Shelf, WalkRefusal};
 
 /// The row of a shelf, once shelf number and slice length are found right.
 pub fn row_of<K: Copy, V: Copy>(

@@ -1,6 +1,5 @@
 pub mod Reading
 pub mod Standing
-pub mod Stacked
 pub mod Counts
 pub mod Sums
 pub mod Told

@@ -15,8 +15,8 @@ mod rows;
 mod shelf;
 mod stack;
 
-pub use account::Account;
-pub use book::Book;
+pub use account::{Account, MOST_NODES};
+pub use book::{Book, SHELVES};
 pub use node::Node;
 pub use opening::{good_order_holds_a_machine, open};
 pub use outoforder::OutOfOrder;

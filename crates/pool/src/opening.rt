@@ -8,23 +8,20 @@ ghost use Rattle.pool.specs.declared.node.Node.{Node};
 ghost use Rattle.pool.specs.declared.node.Node.TheVariants.{Free};
 ghost use Rattle.pool.specs.declared.book.Book.{Book};
 
-use crate::account::Account;
+use crate::account::{Account, MOST_NODES};
 use crate::book::Book;
-use crate::inner::write_node;
 use crate::node::Node;
 use crate::refusal::OpenRefusal;
 use crate::shelf::Shelf;
 use keys::KeyKind;
-
-const MOST_NODES: usize = 4096;
 
 // Links every node to the one behind it.
 fn link_all<K: Copy, V: Copy>(nodes: &mut [Node<K, V>])
     requires few { length nodes.old ≤ 4096 }
     ensures each_names_the_next { (j : ℕ) → j < length nodes.new → At nodes.new j (Free (j + 1)) }
 {
-    for i in 0..nodes.len() {
-        write_node(nodes, i as u16, Node::Free { next: i as u16 + 1 });
+    for (i, node) in nodes.iter_mut().enumerate() {
+        *node = Node::Free { next: i as u16 + 1 };
     }
 }
 
@@ -32,22 +29,18 @@ fn link_all<K: Copy, V: Copy>(nodes: &mut [Node<K, V>])
 pub fn open<K: KeyKind, V: Copy>(nodes: &mut [Node<K, V>]) -> Result<Book, OpenRefusal>
     ensures opens_an_empty_pool { Opens (K.KeyKind) nodes.old nodes.new result }
 {
-    if nodes.len() > MOST_NODES {
+    if nodes.len() > MOST_NODES as usize {
         return Err(OpenRefusal::TooManyNodes);
     }
     link_all(nodes);
     let capacity = nodes.len() as u16;
-    let empty = Shelf {
-        root: None,
-        keys: 0,
-    };
     Ok(Book {
         account: Account {
             capacity,
             head: 0,
             free: capacity,
         },
-        shelves: [empty; 8],
+        shelves: [Shelf::EMPTY; 8],
     })
 }
 

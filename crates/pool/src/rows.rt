@@ -2,29 +2,16 @@ ghost use Rattle.std.specs.Prelude.{◌≡◌, ◌+◌, ◌-◌, ◌*◌, ◌<�
 ghost use Rattle.pool.specs.Books.{AccountOf, OtherRowsSame, Settled, SettledOver, keys_after};
 ghost use Rattle.pool.specs.GoodOrder.{empty_row};
 
-use crate::account::Account;
-use crate::book::Book;
+use crate::account::{Account, MOST_NODES};
+use crate::book::{Book, SHELVES};
 use crate::shelf::Shelf;
-
-const MOST_NODES: u16 = 4096;
-
-const SHELVES: u8 = 8;
-
-// The row of a shelf without keys.
-const EMPTY: Shelf = Shelf {
-    root: None,
-    keys: 0,
-};
 
 impl Account {
     /// An account from its numbers, or none where they break its bounds.
     pub fn from_parts(capacity: u16, head: u16, free: u16) -> Option<Account>
         ensures within_its_bounds { AccountOf capacity head free result }
     {
-        if free > capacity {
-            return None;
-        }
-        if capacity > MOST_NODES {
+        if free > capacity || capacity > MOST_NODES {
             return None;
         }
         Some(Account {
@@ -92,17 +79,14 @@ impl Book {
         ensures other_rows_unchanged { OtherRowsSame self.old self.new (into ∷ (from ∷ [])) }
         ensures no_shelf_changes_nothing { (8 ≤ into → self.new ≡ self.old) × (8 ≤ from → self.new ≡ self.old) }
     {
-        if into >= SHELVES {
-            return;
-        }
-        if from >= SHELVES {
+        if into >= SHELVES || from >= SHELVES {
             return;
         }
         let before = self.shelves[into as usize];
         let over = nodes_of(self.shelves[from as usize].keys);
         let keys = keys_after_move(before.keys, self.account.free, over, left.free);
         self.account = left;
-        self.shelves[from as usize] = EMPTY;
+        self.shelves[from as usize] = Shelf::EMPTY;
         self.shelves[into as usize] = Shelf { root, keys };
     }
 }

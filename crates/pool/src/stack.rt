@@ -3,14 +3,26 @@ ghost use Rattle.std.specs.Option.{option_to_list};
 ghost use Rattle.pool.specs.Stacks.{stacked};
 
 use crate::outoforder::OutOfOrder;
+use std::marker::Model;
 
-/// What a walk has still to do: at most 64 items, since a tree in order has at most 64 branches above one another.
+// How many items a stack has room for.
+const MOST: usize = 64;
+
+/// What a walk has still to do: at most 64 items, since a tree in order has at most 64 branches above one another. Contracts
+/// see the list of the items, the newest first.
+// An array with a height beside it, since the library has no heap: the memory of a stack is fixed.
 #[derive(Drop)]
 pub struct Stack<T> {
-    pub items: [T; 64],
-    pub height: usize,
-    ghost low: { height ≤ 64 },
-    ghost wide: { length items ≡ 64 },
+    items: [T; 64],
+    height: usize,
+}
+
+impl<T> Model for Stack<T> {
+    ghost Value = { List T };
+
+    ghost view = { λ s. stacked s.items s.height };
+
+    ghost invariant = { λ s. (s.height ≤ 64) × (length s.items ≡ 64) };
 }
 
 // What a write above the top and a step of the top do to what a stack holds: facts, no code.
@@ -23,20 +35,20 @@ fn tops_of_stacks<T: Copy>()
 impl<T: Copy> Stack<T> {
     /// A stack that holds nothing; `idle` stands where no item is yet.
     pub fn new(idle: T) -> Self
-        ensures empty { stacked result.items result.height ≡ [] }
+        ensures empty { result ≡ [] }
     {
         Stack {
-            items: [idle; 64],
+            items: [idle; MOST],
             height: 0,
         }
     }
 
     /// Puts an item on top; where there are 64 already, nothing changes.
     pub fn push(&mut self, item: T) -> Result<(), OutOfOrder>
-        ensures on_top_or_full { MatchResult result (λ _. stacked self.new.items self.new.height ≡ item ∷ stacked self.old.items self.old.height) (λ _. (64 ≤ length (stacked self.old.items self.old.height)) × (self.new ≡ self.old)) }
+        ensures on_top_or_full { MatchResult result (λ _. self.new ≡ item ∷ self.old) (λ _. (64 ≤ length self.old) × (self.new ≡ self.old)) }
     {
         tops_of_stacks::<T>();
-        if self.height >= 64 {
+        if self.height >= MOST {
             return Err(OutOfOrder);
         }
         self.items[self.height] = item;
@@ -46,8 +58,8 @@ impl<T: Copy> Stack<T> {
 
     /// Takes the item on top, if there is one.
     pub fn pop(&mut self) -> Option<T>
-        ensures from_the_top { stacked self.old.items self.old.height ≡ option_to_list result ++ stacked self.new.items self.new.height }
-        ensures none_of_an_empty_one { result ≡ None → stacked self.new.items self.new.height ≡ [] }
+        ensures from_the_top { self.old ≡ option_to_list result ++ self.new }
+        ensures none_of_an_empty_one { result ≡ None → self.new ≡ [] }
     {
         tops_of_stacks::<T>();
         if self.height == 0 {

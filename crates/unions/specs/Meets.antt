@@ -10,7 +10,7 @@ use Rattle.unions.specs.declared.meeting.Meeting.TheVariants.{Apart, Into, Under
 -- a node shows its tree's place and a key of its prefix; a leaf counts as the number of places, a free node shows none
 abbrev pub Shows : {K V : Type 0} → KeyModel K → Node K V → ℕ → K → Type 0
 Shows κ (Free n) p k = ⊥
-Shows κ (Leaf j v) p k = (p ≡ κ.places) × (k ≡ j)
+Shows κ (Leaf j v) p k = (p ≡ κ.PLACES) × (k ≡ j)
 Shows κ (Branch q j l r) p k = (p ≡ q) × (k ≡ j)
 
 abbrev pub Vacant : {K V : Type 0} → Node K V → Type 0

@@ -25,7 +25,7 @@ pub record Fit {K V : Type 0} (κ : KeyModel K) (ns : List (Node K V)) (job : Jo
   pub add_ordered : Ordered κ item.least item.add
   pub shared : (c : K) × AllKeys (λ j. Agree κ item.least j c) item.into × AllKeys (λ j. Agree κ item.least j c) item.add
   pub deep : depth ≤ item.least
-  pub bounded : item.least ≤ κ.places
+  pub bounded : item.least ≤ κ.PLACES
 
 abbrev pub Fits : {K V : Type 0} → KeyModel K → List (Node K V) → List Job → List (Item K V) → Type 0
 Fits κ ns [] [] = Unit {0}

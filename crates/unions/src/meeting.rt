@@ -33,7 +33,7 @@ pub fn face_of<K: KeyKind, V: Copy>(node: Node<K, V>) -> Result<Face<K>, OutOfOr
     match node {
         Node::Free { .. } => Err(OutOfOrder),
         Node::Leaf { key, .. } => Ok(Face {
-            place: K::place_count(),
+            place: K::PLACES,
             key,
         }),
         Node::Branch { place, key, .. } => Ok(Face { place, key }),

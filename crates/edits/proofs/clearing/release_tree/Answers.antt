@@ -1,7 +1,6 @@
 use Rattle.std.proofs.Common.{ℕ, ◌+◌, List, ◌∷◌, ◌++◌, Option, sym, ap, ◌∙◌, subst, ⊎_elim}
 use Rattle.std.specs.Option.{option_to_list}
 use Rattle.trees.specs.Tree.{uses, times}
-use Rattle.pool.specs.Stacks.{stacked}
 use Rattle.edits.proofs.Pending.{Pending, whole_waits, all_back, first_within, first_room, first_not_stuck, turned}
 use Rattle.edits.proofs.clearing.release_tree.Goals as goal
 
@@ -39,7 +38,7 @@ pub returns-in-None : goal.returns-in-None
 returns-in-None g c = record {
   gives_all_back = λ t chain r b.
       let κ = g.K.KeyKind in
-      let rest = stacked c.after_node.new.waiting.items c.after_node.new.waiting.height in
+      let rest = c.after_node.new.waiting in
       let queued = c.in_ok-after_node.ensures.sides_before_others in
       let turn = turned κ _ _ _ _ _ _ _ (c.loop-node.invariant t chain r b) b.once c.in_ok-node.node c.in_ok-node.ensures.node_or_past_end
       c.release.new.nodes c.in_ok-account.account c.in_ok-account.ensures.first_of_chain_now in
@@ -51,7 +50,7 @@ returns-in-None g c = record {
 pub loop-node-preserved : goal.loop-node-preserved
 loop-node-preserved g c t chain r b =
     let κ = g.K.KeyKind in
-    let rest = stacked c.after_node.new.waiting.items c.after_node.new.waiting.height in
+    let rest = c.after_node.new.waiting in
     let queued = c.in_ok-after_node.ensures.sides_before_others in
     let turn = turned κ _ _ _ _ _ _ _ (c.loop-node.invariant t chain r b) b.once c.in_ok-node.node c.in_ok-node.ensures.node_or_past_end
     c.release.new.nodes c.in_ok-account.account c.in_ok-account.ensures.first_of_chain_now in
