@@ -1,7 +1,7 @@
 use causes::Cause;
 use keys::Word;
 use records::Mark;
-use runs::Answer;
+use runs::Reply;
 
 /// How often a call was answered in each way.
 #[derive(Clone, Copy)]
@@ -25,16 +25,16 @@ impl Tally {
         }
     }
 
-    pub(crate) fn add(self, answer: Answer<Word, Mark>, same: bool) -> Tally {
+    pub(crate) fn add(self, reply: Reply<Word, Mark>, same: bool) -> Tally {
         let mut sum = self;
-        match answer {
-            Answer::Refused(cause) => {
+        match reply {
+            Err(cause) => {
                 sum = sum.refusal(cause);
                 if !same {
                     sum.changed = sum.changed.saturating_add(1);
                 }
             }
-            _ => sum.done = sum.done.saturating_add(1),
+            Ok(_) => sum.done = sum.done.saturating_add(1),
         }
         sum
     }
