@@ -3,14 +3,14 @@
 ghost use Rattle.std.specs.Prelude.{◌^◌, ◌<◌};
 
 /// A light by its number.
-#[derive(Clone, Copy)]
+#[derive(Clone, Copy, PartialEq, Eq, Debug)]
 pub struct Word {
     pub light: u32,
     ghost fits: { light < 2 ^ 32 },
 }
 
 /// A cell of the chart, by row and column.
-#[derive(Clone, Copy)]
+#[derive(Clone, Copy, PartialEq, Eq, Debug)]
 pub struct Cell {
     pub row: u16,
     pub column: u16,

@@ -4,7 +4,7 @@ use crate::account::Account;
 use crate::shelf::Shelf;
 
 /// The book of a pool: its account of the free nodes, and a row for each of its eight shelves.
-#[derive(Clone, Copy)]
+#[derive(Clone, Copy, PartialEq, Eq, Debug)]
 pub struct Book {
     pub account: Account,
     pub shelves: [Shelf; 8],

@@ -1,5 +1,5 @@
 /// One node of a lent pool. Indices of nodes have 16 bits.
-#[derive(Clone, Copy)]
+#[derive(Clone, Copy, PartialEq, Eq, Debug)]
 pub enum Node<K, V> {
     /// Not in use; the free node after this one.
     Free {
