@@ -10,8 +10,7 @@ use Rattle.records.specs.Joins.{parts_joined}
 use Rattle.records.specs.contracts.hours.HoursJoining.TheImpl.{ghosts as hours_join}
 use Rattle.records.specs.contracts.setting.SettingJoining.TheImpl.{ghosts as setting_join}
 use Rattle.records.specs.contracts.tags.TagsJoining.TheImpl.{ghosts as tags_join}
-use Rattle.runs.specs.Runs.{said, step}
-use Rattle.runs.specs.declared.answer.Answer.{Answer}
+use Rattle.runs.specs.Runs.{Reply, said, step}
 use Rattle.runs.specs.declared.call.Call.{Call}
 use Rattle.script.specs.Values.{Lamp}
 
@@ -29,6 +28,6 @@ Opened n (Ok store) = (n ≤ 4096) × Keeps store (opened n)
 Opened n (Err refusal) = 4096 < n
 
 -- a call is answered as by the machine that is kept, and leaves the machine after that call
-abbrev pub Plays : Store → Call Word Lamp → Answer Word Lamp → Store → Type 0
+abbrev pub Plays : Store → Call Word Lamp → Reply Word Lamp → Store → Type 0
 Plays before call answer after =
     (m : Machine Word Lamp) → Keeps before m → (answer ≡ said word_kind lamps_joined m call) × Keeps after (step word_kind m call)

@@ -1,9 +1,9 @@
 -- What the console does at each call of a script, and what it says of each answer of the pool.
-use Rattle.std.specs.Prelude.{ℕ, Some, None, Option}
+use Rattle.std.specs.Prelude.{ℕ, Some, None, Option, Ok, Err}
 use Rattle.console.specs.declared.task.Task.{Task}
 use Rattle.keys.specs.declared.values.Word.{Word}
-use Rattle.runs.specs.declared.answer.Answer.{Answer as PoolAnswer}
-use Rattle.runs.specs.declared.answer.Answer.TheVariants.{Done, Found, Entry, Number, Refused}
+use Rattle.runs.specs.Runs.{Reply}
+use Rattle.runs.specs.declared.answer.Answer.TheVariants.{Done, Found, Entry, Number}
 use Rattle.runs.specs.declared.call.Call.{Call as PoolCall}
 use Rattle.runs.specs.declared.call.Call.TheVariants as pool
 use Rattle.script.specs.Values.{Lamp}
@@ -43,10 +43,10 @@ counted (pool.Clear s) n = Answer.Count n
 counted (pool.Count s) n = Answer.Count n
 counted pool.Free n = Answer.Free n
 
--- what is said of an answer to a call
-abbrev pub spoken : PoolCall Word Lamp → PoolAnswer Word Lamp → Answer
-spoken call Done = Answer.Done
-spoken call (Found found) = found_record found
-spoken call (Entry found) = found_entry found
-spoken call (Number n) = counted call n
-spoken call (Refused cause) = Answer.Refused cause
+-- what is said of what comes of a call
+abbrev pub spoken : PoolCall Word Lamp → Reply Word Lamp → Answer
+spoken call (Ok Done) = Answer.Done
+spoken call (Ok (Found found)) = found_record found
+spoken call (Ok (Entry found)) = found_entry found
+spoken call (Ok (Number n)) = counted call n
+spoken call (Err cause) = Answer.Refused cause

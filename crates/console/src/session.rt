@@ -59,7 +59,7 @@ fn open(rt: &HostRuntime, store: &mut Store, nodes: u32) -> io::Result<()> {
             *store = opened;
             rt.println(Answer::Done)
         }
-        Err(refusal) => rt.println(Answer::Refused(refusal.cause())),
+        Err(refusal) => rt.println(Answer::Refused(refusal.into())),
     }
 }
 

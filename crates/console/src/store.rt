@@ -5,7 +5,7 @@ ghost use Rattle.console.specs.Keeping.{Opened, Plays};
 use keys::Word;
 use pool::{Book, Node, OpenRefusal, open};
 use records::Lamp;
-use runs::{Answer, Call, play};
+use runs::{Call, Reply, play};
 use std::alloc::{AllocError, Global};
 
 const MOST_NODES: u32 = 4096;
@@ -29,7 +29,7 @@ impl Store {
         }
     }
 
-    pub(crate) fn play(&mut self, call: &Call<Word, Lamp>) -> Answer<Word, Lamp>
+    pub(crate) fn play(&mut self, call: &Call<Word, Lamp>) -> Reply<Word, Lamp>
         ensures plays_as_the_machine { Plays self.old call.now result self.new }
     {
         play(self.nodes.as_mut_slice(), &mut self.book, call)

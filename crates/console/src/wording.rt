@@ -5,7 +5,7 @@ ghost use Rattle.console.specs.Wording.{task_of, spoken, found_record, found_ent
 use crate::task::Task;
 use keys::Word;
 use records::Lamp;
-use runs::{Answer as PoolAnswer, Call as PoolCall};
+use runs::{Answer as PoolAnswer, Call as PoolCall, Reply};
 use script::{Answer, Call};
 
 pub(crate) fn task(call: Call) -> Task
@@ -28,16 +28,16 @@ pub(crate) fn task(call: Call) -> Task
     }
 }
 
-/// The pool's answer to a call, as the script has it.
-pub(crate) fn spoken(call: PoolCall<Word, Lamp>, answer: PoolAnswer<Word, Lamp>) -> Answer
-    ensures says_the_answer { result ≡ spoken call answer }
+/// What comes of a call on the pool, as the script has it.
+pub(crate) fn spoken(call: PoolCall<Word, Lamp>, reply: Reply<Word, Lamp>) -> Answer
+    ensures says_the_answer { result ≡ spoken call reply }
 {
-    match answer {
-        PoolAnswer::Done => Answer::Done,
-        PoolAnswer::Found(found) => found_record(found),
-        PoolAnswer::Entry(found) => found_entry(found),
-        PoolAnswer::Number(number) => counted(call, number),
-        PoolAnswer::Refused(cause) => Answer::Refused(cause),
+    match reply {
+        Ok(PoolAnswer::Done) => Answer::Done,
+        Ok(PoolAnswer::Found(found)) => found_record(found),
+        Ok(PoolAnswer::Entry(found)) => found_entry(found),
+        Ok(PoolAnswer::Number(number)) => counted(call, number),
+        Err(cause) => Answer::Refused(cause),
     }
 }
 

@@ -1,6 +1,7 @@
 use keys::Word;
 use records::Mark;
 use runs::Call;
+use std::fmt;
 
 /// What is tried on each pool.
 #[derive(Clone, Copy)]
@@ -17,20 +18,6 @@ pub(crate) enum Deed {
 }
 
 impl Deed {
-    pub(crate) fn name(self) -> &'static str {
-        match self {
-            Deed::PutOld => "put of an old key",
-            Deed::PutNew => "put of a new key",
-            Deed::Look => "look",
-            Deed::Next => "next",
-            Deed::NextAfter => "next after a key",
-            Deed::Remove => "remove",
-            Deed::Clear => "clear",
-            Deed::Count => "count",
-            Deed::Free => "free",
-        }
-    }
-
     /// The call on a shelf. Key 5 is on both shelves that have keys, and key 8 on none.
     pub(crate) fn on(self, shelf: u8) -> Call<Word, Mark> {
         let old = Word { light: 5 };
@@ -58,5 +45,21 @@ impl Deed {
             Deed::Count => Call::Count { shelf },
             Deed::Free => Call::Free,
         }
+    }
+}
+
+impl fmt::Display for Deed {
+    fn fmt<W: fmt::Write>(&self, f: &mut fmt::Formatter<W>) -> fmt::Result {
+        f.write_str(match self {
+            Deed::PutOld => "put of an old key",
+            Deed::PutNew => "put of a new key",
+            Deed::Look => "look",
+            Deed::Next => "next",
+            Deed::NextAfter => "next after a key",
+            Deed::Remove => "remove",
+            Deed::Clear => "clear",
+            Deed::Count => "count",
+            Deed::Free => "free",
+        })
     }
 }

@@ -12,38 +12,26 @@ pub(crate) enum Harm {
 }
 
 impl Harm {
-    /// Does the harm to the nodes, and answers the harmed book.
-    pub(crate) fn inflict(self, nodes: &mut [Node<Word, Mark>], book: Book) -> Book {
+    /// Does the harm to the nodes and the book.
+    pub(crate) fn inflict(self, nodes: &mut [Node<Word, Mark>], book: &mut Book) {
         match self {
-            Harm::Nothing => book,
+            Harm::Nothing => {}
             Harm::Node { at, node } => {
-                write_within(nodes, at, node);
-                book
+                if let Some(place) = nodes.get_mut(at as usize) {
+                    *place = node;
+                }
             }
-            Harm::Row { shelf, row } => with_row(book, shelf, row),
-            Harm::Account { head, free } => with_account(book, head, free),
+            Harm::Row { shelf, row } => {
+                // Not by `get_mut`: tried, and after it the book is not known to have eight rows.
+                if shelf < 8 {
+                    book.shelves[shelf as usize] = row;
+                }
+            }
+            Harm::Account { head, free } => {
+                if let Some(account) = Account::from_parts(book.account.capacity, head, free) {
+                    book.account = account;
+                }
+            }
         }
-    }
-}
-
-fn write_within(nodes: &mut [Node<Word, Mark>], at: u16, node: Node<Word, Mark>) {
-    let i = at as usize;
-    if i < nodes.len() {
-        nodes[i] = node;
-    }
-}
-
-fn with_row(book: Book, shelf: u8, row: Shelf) -> Book {
-    let mut shelves = book.shelves;
-    if shelf < 8 {
-        shelves[shelf as usize] = row;
-    }
-    Book::from_parts(book.account, shelves)
-}
-
-fn with_account(book: Book, head: u16, free: u16) -> Book {
-    match Account::from_parts(book.account.capacity, head, free) {
-        Some(account) => Book::from_parts(account, book.shelves),
-        None => book,
     }
 }

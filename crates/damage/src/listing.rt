@@ -55,34 +55,41 @@ fn leaves(harms: &mut Vec<Harm>, at: u16) -> anyhow::Result<()> {
     Ok(())
 }
 
-/// Branches at right and at wrong places, with sides that make a cycle, are shared, are free, or stand past the end.
+/// Branches at right and at wrong places.
 fn branches(harms: &mut Vec<Harm>, at: u16) -> anyhow::Result<()> {
     for place in PLACES {
-        branch(harms, at, place, (at, at))?;
-        branch(harms, at, place, (at ^ 1, at))?;
-        branch(harms, at, place, (at ^ 1, at ^ 1))?;
-        branch(harms, at, place, (0, 1))?;
-        branch(harms, at, place, (2, 2))?;
-        branch(harms, at, place, (FAR, FAR))?;
-        branch(harms, at, place, (UNUSED, UNUSED))?;
+        branches_of(harms, at, place)?;
     }
     Ok(())
 }
 
-fn branch(harms: &mut Vec<Harm>, at: u16, place: u8, sides: (u16, u16)) -> anyhow::Result<()> {
-    let node = Node::Branch {
-        place,
-        key: Word { light: 5 },
-        zero: sides.0,
-        one: sides.1,
-    };
-    harms.push(Harm::Node { at, node })?;
+/// Branches with sides that make a cycle, are shared, are free, or stand past the end.
+fn branches_of(harms: &mut Vec<Harm>, at: u16, place: u8) -> anyhow::Result<()> {
+    let other = at ^ 1;
+    let sides = [
+        (at, at),
+        (other, at),
+        (other, other),
+        (0, 1),
+        (2, 2),
+        (FAR, FAR),
+        (UNUSED, UNUSED),
+    ];
+    for (zero, one) in sides {
+        let node = Node::Branch {
+            place,
+            key: Word { light: 5 },
+            zero,
+            one,
+        };
+        harms.push(Harm::Node { at, node })?;
+    }
     Ok(())
 }
 
 /// Rows whose tree begins elsewhere.
 fn roots(harms: &mut Vec<Harm>, shelf: u8, sound: Shelf) -> anyhow::Result<()> {
-    for root in 0..NODES + 1 {
+    for root in 0..=NODES {
         row(harms, shelf, Some(root), sound.keys)?;
     }
     row(harms, shelf, Some(FAR), sound.keys)?;
@@ -105,7 +112,7 @@ fn row(harms: &mut Vec<Harm>, shelf: u8, root: Option<u16>, keys: u16) -> anyhow
 
 /// Free chains that begin elsewhere, with right and wrong numbers of free nodes.
 fn accounts(harms: &mut Vec<Harm>, free: u16) -> anyhow::Result<()> {
-    for head in 0..NODES + 1 {
+    for head in 0..=NODES {
         harms.push(Harm::Account { head, free })?;
         harms.push(Harm::Account { head, free: 0 })?;
         harms.push(Harm::Account { head, free: 1 })?;

@@ -9,7 +9,6 @@
 mod deed;
 mod harm;
 mod listing;
-mod same;
 mod scene;
 mod stock;
 mod tally;

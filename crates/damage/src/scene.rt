@@ -1,6 +1,5 @@
 use crate::deed::Deed;
 use crate::harm::Harm;
-use crate::same::{same_book, same_nodes};
 use crate::tally::Tally;
 use keys::Word;
 use pool::{Book, Node};
@@ -30,56 +29,52 @@ impl<'a> Scene<'a> {
     }
 
     pub(crate) fn after(self, earlier: &'a [Deed]) -> Scene<'a> {
-        Scene {
-            nodes: self.nodes,
-            book: self.book,
-            length: self.length,
-            earlier,
-        }
+        Scene { earlier, ..self }
     }
 
     pub(crate) fn of_length(self, length: usize) -> Scene<'a> {
-        Scene {
-            nodes: self.nodes,
-            book: self.book,
-            length,
-            earlier: self.earlier,
+        Scene { length, ..self }
+    }
+
+    /// How a call is answered, over all harms and shelves.
+    pub(crate) fn tally(&self, harms: &[Harm], shelves: &[u8], deed: Deed) -> Tally {
+        let mut tally = Tally::default();
+        for shelf in shelves {
+            self.try_harms(harms, *shelf, deed, &mut tally);
+        }
+        tally
+    }
+
+    fn try_harms(&self, harms: &[Harm], shelf: u8, deed: Deed, tally: &mut Tally) {
+        for harm in harms {
+            self.try_harm(*harm, shelf, deed, tally);
         }
     }
 
     /// Makes a fresh harmed copy of the pool and one call on it, and adds its answer to the tally.
-    pub(crate) fn tried(&self, tally: Tally, harm: Harm, deed: Deed, shelf: u8) -> Tally {
+    fn try_harm(&self, harm: Harm, shelf: u8, deed: Deed, tally: &mut Tally) {
         let mut room = [Node::Free { next: 0 }; MOST];
-        let mut before = [Node::Free { next: 0 }; MOST];
-        if self.length > MOST {
-            return tally;
-        }
-        let nodes = &mut room[0..self.length];
-        let kept = &mut before[0..self.length];
+        let mut book = self.book;
+        let Some(nodes) = room.get_mut(..self.length) else {
+            return;
+        };
         copy_nodes(self.nodes, nodes);
-        let mut book = harm.inflict(nodes, self.book);
+        harm.inflict(nodes, &mut book);
         play_each(nodes, &mut book, self.earlier, shelf);
-        copy_nodes(nodes, kept);
-        let held = book;
-        let call = deed.on(shelf);
-        let answer = play(nodes, &mut book, &call);
-        let same = same_nodes(nodes, kept) && same_book(&book, &held);
-        tally.add(answer, same)
+        let (nodes_before, book_before) = (room, book);
+        let reply = play(&mut room[..self.length], &mut book, &deed.on(shelf));
+        tally.add(reply, room == nodes_before && book == book_before);
     }
 }
 
 fn play_each(nodes: &mut [Node<Word, Mark>], book: &mut Book, deeds: &[Deed], shelf: u8) {
     for deed in deeds {
-        let call = deed.on(shelf);
-        let _ = play(nodes, book, &call);
+        let _ = play(nodes, book, &deed.on(shelf));
     }
 }
 
 fn copy_nodes(from: &[Node<Word, Mark>], to: &mut [Node<Word, Mark>]) {
-    for i in 0..to.len() {
-        if i < from.len() {
-            let node = from[i];
-            to[i] = node;
-        }
+    for (place, node) in to.iter_mut().zip(from) {
+        *place = *node;
     }
 }

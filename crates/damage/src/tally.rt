@@ -1,52 +1,54 @@
 use causes::Cause;
 use keys::Word;
 use records::Mark;
-use runs::Answer;
+use runs::Reply;
+use std::fmt;
 
 /// How often a call was answered in each way.
-#[derive(Clone, Copy)]
+#[derive(Clone, Copy, Default)]
 pub(crate) struct Tally {
-    pub(crate) done: u32,
-    pub(crate) no_such_shelf: u32,
-    pub(crate) out_of_order: u32,
-    pub(crate) too_few_nodes: u32,
+    done: u32,
+    no_such_shelf: u32,
+    out_of_order: u32,
+    too_few_nodes: u32,
     /// Refusals that yet changed the pool; none but those for want of order may.
-    pub(crate) changed: u32,
+    changed: u32,
 }
 
 impl Tally {
-    pub(crate) fn new() -> Tally {
-        Tally {
-            done: 0,
-            no_such_shelf: 0,
-            out_of_order: 0,
-            too_few_nodes: 0,
-            changed: 0,
-        }
-    }
-
-    pub(crate) fn add(self, answer: Answer<Word, Mark>, same: bool) -> Tally {
-        let mut sum = self;
-        match answer {
-            Answer::Refused(cause) => {
-                sum = sum.refusal(cause);
+    /// Counts a reply, and whether the call left the pool the same.
+    pub(crate) fn add(&mut self, reply: Reply<Word, Mark>, same: bool) {
+        match reply {
+            Ok(_) => count(&mut self.done),
+            Err(cause) => {
+                self.add_refusal(cause);
                 if !same {
-                    sum.changed = sum.changed.saturating_add(1);
+                    count(&mut self.changed);
                 }
             }
-            _ => sum.done = sum.done.saturating_add(1),
         }
-        sum
     }
 
-    fn refusal(self, cause: Cause) -> Tally {
-        let mut sum = self;
+    fn add_refusal(&mut self, cause: Cause) {
         match cause {
-            Cause::NoSuchShelf => sum.no_such_shelf = sum.no_such_shelf.saturating_add(1),
-            Cause::OutOfOrder => sum.out_of_order = sum.out_of_order.saturating_add(1),
-            Cause::TooFewNodes => sum.too_few_nodes = sum.too_few_nodes.saturating_add(1),
+            Cause::NoSuchShelf => count(&mut self.no_such_shelf),
+            Cause::OutOfOrder => count(&mut self.out_of_order),
+            Cause::TooFewNodes => count(&mut self.too_few_nodes),
             _ => {}
         }
-        sum
     }
+}
+
+impl fmt::Display for Tally {
+    fn fmt<W: fmt::Write>(&self, f: &mut fmt::Formatter<W>) -> fmt::Result {
+        write!(
+            f,
+            "{} ok, {} no such shelf, {} out of order, {} too few nodes, {} refused and changed",
+            self.done, self.no_such_shelf, self.out_of_order, self.too_few_nodes, self.changed
+        )
+    }
+}
+
+fn count(number: &mut u32) {
+    *number = number.saturating_add(1);
 }

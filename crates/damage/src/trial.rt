@@ -3,7 +3,6 @@ use crate::harm::Harm;
 use crate::listing::every_harm;
 use crate::scene::Scene;
 use crate::stock::stocked;
-use crate::tally::Tally;
 use pool::Node;
 use std::io;
 
@@ -19,6 +18,11 @@ const DEEDS: [Deed; 9] = [
     Deed::Free,
 ];
 
+// Shelves that there are: with four keys, with two, and with none.
+const THERE: [u8; 3] = [0, 1, 7];
+
+const MISSING: [u8; 2] = [8, 255];
+
 /// Stocks a pool, and tries every call on it: sound and harmed, on shelves that there are and are not, after other
 /// calls, and with a slice of another length.
 pub(crate) fn run(rt: &HostRuntime) -> anyhow::Result<()> {
@@ -32,28 +36,16 @@ pub(crate) fn run(rt: &HostRuntime) -> anyhow::Result<()> {
     println!(rt; "{} harms", every.len())?;
     let none = [Harm::Nothing];
     let sound = Scene::new(&nodes, book);
-    table(rt, "sound", &sound, &none, &[0, 1, 7])?;
-    table(rt, "sound, no such shelf", &sound, &none, &[8, 255])?;
-    table(rt, "harmed", &sound, every, &[0, 1, 7])?;
-    table(rt, "harmed, no such shelf", &sound, every, &[8, 255])?;
+    table(rt, "sound", &sound, &none, &THERE)?;
+    table(rt, "sound, no such shelf", &sound, &none, &MISSING)?;
+    table(rt, "harmed", &sound, every, &THERE)?;
+    table(rt, "harmed, no such shelf", &sound, every, &MISSING)?;
     let changed = sound.after(&[Deed::PutNew, Deed::Remove]);
-    table(
-        rt,
-        "harmed, after put and remove",
-        &changed,
-        every,
-        &[0, 1, 7],
-    )?;
+    table(rt, "harmed, after put and remove", &changed, every, &THERE)?;
     let emptied = sound.after(&[Deed::Clear, Deed::PutNew]);
-    table(
-        rt,
-        "harmed, after clear and put",
-        &emptied,
-        every,
-        &[0, 1, 7],
-    )?;
-    table(rt, "one node less", &sound.of_length(15), every, &[0, 1, 7])?;
-    table(rt, "one node more", &sound.of_length(17), every, &[0, 1, 7])?;
+    table(rt, "harmed, after clear and put", &emptied, every, &THERE)?;
+    table(rt, "one node less", &sound.of_length(15), every, &THERE)?;
+    table(rt, "one node more", &sound.of_length(17), every, &THERE)?;
     rt.println("done")?;
     Ok(())
 }
@@ -68,35 +60,7 @@ fn table(
 ) -> io::Result<()> {
     println!(rt; "{title}:")?;
     for deed in DEEDS {
-        print_line(rt, deed, over_shelves(scene, harms, shelves, deed))?;
+        println!(rt; "  {deed}: {}", scene.tally(harms, shelves, deed))?;
     }
     Ok(())
-}
-
-fn print_line(rt: &HostRuntime, deed: Deed, tally: Tally) -> io::Result<()> {
-    println!(rt;
-        "  {}: {} ok, {} no such shelf, {} out of order, {} too few nodes, {} refused and changed",
-        deed.name(),
-        tally.done,
-        tally.no_such_shelf,
-        tally.out_of_order,
-        tally.too_few_nodes,
-        tally.changed
-    )
-}
-
-fn over_shelves(scene: &Scene<'_>, harms: &[Harm], shelves: &[u8], deed: Deed) -> Tally {
-    let mut tally = Tally::new();
-    for shelf in shelves {
-        tally = over_harms(tally, scene, harms, deed, *shelf);
-    }
-    tally
-}
-
-fn over_harms(before: Tally, scene: &Scene<'_>, harms: &[Harm], deed: Deed, shelf: u8) -> Tally {
-    let mut tally = before;
-    for harm in harms {
-        tally = scene.tried(tally, *harm, deed, shelf);
-    }
-    tally
 }

@@ -1,6 +1,7 @@
 -- Calls as data: what the machine answers to each, and the machine after it; and the same of a list of calls.
 use Rattle.std.specs.Prelude.{◌≡◌, ℕ, ◌<◌, ◌≤◌, cond, List, [], ◌∷◌, ◌++◌, length, drop, Ok, Err, Result, nat_lt}
 use Rattle.keys.specs.Model.{KeyModel}
+use Rattle.causes.specs.declared.cause.Cause.{Cause}
 use Rattle.causes.specs.declared.cause.Cause.TheVariants.{NoSuchShelf, TooFewNodes}
 use Rattle.pool.specs.declared.node.Node.{Node}
 use Rattle.pool.specs.declared.book.Book.{Book}
@@ -11,12 +12,16 @@ use Rattle.pool.specs.Machine.{Machine, opened, list_of, record_at, next_of, cou
 use Rattle.runs.specs.declared.call.Call.{Call}
 use Rattle.runs.specs.declared.call.Call.TheVariants.{Put, Look, Next, Remove, Clear, Count, Free}
 use Rattle.runs.specs.declared.answer.Answer.{Answer}
-use Rattle.runs.specs.declared.answer.Answer.TheVariants.{Done, Found, Entry, Number, Refused}
+use Rattle.runs.specs.declared.answer.Answer.TheVariants.{Done, Found, Entry, Number}
+
+-- an answer, or why there is none
+abbrev pub Reply : Type 0 → Type 0 → Type 0
+Reply K V = Result (Answer K V) Cause
 
 module _ {K V : Type 0} where
   -- a shelf over 7 is refused, before all else
-  abbrev pub on_shelf : ℕ → Answer K V → Answer K V
-  on_shelf s a = cond (nat_lt s 8) a (Refused NoSuchShelf)
+  abbrev pub on_shelf : ℕ → Reply K V → Reply K V
+  on_shelf s a = cond (nat_lt s 8) a (Err NoSuchShelf)
 
   -- a shelf over 7 changes nothing
   abbrev pub from_shelf : ℕ → Machine K V → Machine K V → Machine K V
@@ -24,14 +29,14 @@ module _ {K V : Type 0} where
 
 module _ {K V : Type 0} (κ : KeyModel K) (join : V → V → V) where
   -- what the machine answers
-  abbrev pub said : Machine K V → Call K V → Answer K V
-  said m (Put s k v) = on_shelf s (cond (put_fits κ m s k) Done (Refused TooFewNodes))
-  said m (Look s k) = on_shelf s (Found (record_at κ join (list_of m s) k))
-  said m (Next s bound) = on_shelf s (Entry (next_of κ join (list_of m s) bound))
-  said m (Remove s k) = on_shelf s (Found (record_at κ join (list_of m s) k))
-  said m (Clear s) = on_shelf s Done
-  said m (Count s) = on_shelf s (Number (count_of κ (list_of m s)))
-  said m Free = Number (free_in κ m)
+  abbrev pub said : Machine K V → Call K V → Reply K V
+  said m (Put s k v) = on_shelf s (cond (put_fits κ m s k) (Ok Done) (Err TooFewNodes))
+  said m (Look s k) = on_shelf s (Ok (Found (record_at κ join (list_of m s) k)))
+  said m (Next s bound) = on_shelf s (Ok (Entry (next_of κ join (list_of m s) bound)))
+  said m (Remove s k) = on_shelf s (Ok (Found (record_at κ join (list_of m s) k)))
+  said m (Clear s) = on_shelf s (Ok Done)
+  said m (Count s) = on_shelf s (Ok (Number (count_of κ (list_of m s))))
+  said m Free = Ok (Number (free_in κ m))
 
 module _ {K V : Type 0} (κ : KeyModel K) where
   -- the machine after a call
@@ -51,11 +56,11 @@ module _ {K V : Type 0} (κ : KeyModel K) where
 
 module _ {K V : Type 0} (κ : KeyModel K) (join : V → V → V) where
   -- what the machine answers to a list of calls, one after the other
-  abbrev pub told : Machine K V → List (Call K V) → List (Answer K V)
+  abbrev pub told : Machine K V → List (Call K V) → List (Reply K V)
   told m [] = []
   told m (c ∷ cs) = said κ join m c ∷ told (step κ m c) cs
 
-module _ {K V : Type 0} (κ : KeyModel K) (join : V → V → V) (ns ns' : List (Node K V)) (calls : List (Call K V)) (answers answers' : List (Answer K V)) where
+module _ {K V : Type 0} (κ : KeyModel K) (join : V → V → V) (ns ns' : List (Node K V)) (calls : List (Call K V)) (answers answers' : List (Reply K V)) where
   -- a list of calls on a newly opened pool, as one claim: the answers are the machine's, so that every refusal comes exactly
   -- where the machine gives it, and the pool then holds the machine after the list; a list that is not played changes nothing
   abbrev pub Runs : Result Book RunRefusal → Type 0

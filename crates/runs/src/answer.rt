@@ -1,9 +1,9 @@
 use causes::Cause;
 
-/// What a call answers.
+/// What a call that was carried out answers.
 #[derive(Clone, Copy)]
 pub enum Answer<K, V> {
-    /// It was carried out, and there is nothing to tell.
+    /// There is nothing to tell.
     Done,
     /// A record, or none.
     Found(Option<V>),
@@ -11,6 +11,8 @@ pub enum Answer<K, V> {
     Entry(Option<(K, V)>),
     /// A number of keys or of nodes.
     Number(u16),
-    /// It was refused; on a pool in good order, or of another length, nothing changed.
-    Refused(Cause),
 }
+
+/// What comes of a call: its answer, or why it was refused; on a pool in good order, or of another length, a refusal
+/// changed nothing.
+pub type Reply<K, V> = Result<Answer<K, V>, Cause>;

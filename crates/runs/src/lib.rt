@@ -8,7 +8,7 @@ mod playing;
 mod refusal;
 mod running;
 
-pub use answer::Answer;
+pub use answer::{Answer, Reply};
 pub use call::Call;
 pub use playing::play;
 pub use refusal::RunRefusal;

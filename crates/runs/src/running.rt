@@ -3,7 +3,7 @@ ghost use Rattle.pool.specs.Machine.{Machine};
 ghost use Rattle.pool.specs.Holds.{Holds};
 ghost use Rattle.runs.specs.Runs.{run, told, Runs};
 
-use crate::answer::Answer;
+use crate::answer::Reply;
 use crate::call::Call;
 use crate::playing::play;
 use crate::refusal::RunRefusal;
@@ -11,26 +11,27 @@ use keys::KeyKind;
 use pool::{Book, Node, open};
 use records::Joining;
 
-fn store<K: Copy, V: Copy>(answers: &mut [Answer<K, V>], at: usize, answer: Answer<K, V>)
+// A function of its own: tried within the loop, where the bound on the offset of `answers[at]` stays open.
+fn store<K: Copy, V: Copy>(answers: &mut [Reply<K, V>], at: usize, reply: Reply<K, V>)
     requires within { at < length answers.old }
-    ensures stored { answers.new ≡ slice_set answers.old at answer }
+    ensures stored { answers.new ≡ slice_set answers.old at reply }
 {
-    answers[at] = answer;
+    answers[at] = reply;
 }
 
-// Plays the calls one after the other.
+// Plays the calls one after the other. Not a zip with `answers.iter_mut()`: tried, and after that loop a proof knows of
+// what was written the length alone.
 fn play_each<K: KeyKind, V: Joining>(
     nodes: &mut [Node<K, V>],
     book: &mut Book,
     calls: &[Call<K, V>],
-    answers: &mut [Answer<K, V>],
+    answers: &mut [Reply<K, V>],
 )
     requires room { length calls.now ≤ length answers.old }
     ensures as_the_machine { (m : Machine K V) → Holds (K.KeyKind) V.Joining.joined nodes.old book.old m → (answers.new ≡ told (K.KeyKind) V.Joining.joined m calls.now ++ drop (length calls.now) answers.old) × Holds (K.KeyKind) V.Joining.joined nodes.new book.new (run (K.KeyKind) m calls.now) }
 {
-    for i in 0..calls.len() {
-        let answer = play(nodes, book, &calls[i]);
-        store(answers, i, answer);
+    for (i, call) in calls.iter().enumerate() {
+        store(answers, i, play(nodes, book, call));
     }
 }
 
@@ -39,17 +40,14 @@ fn play_each<K: KeyKind, V: Joining>(
 pub fn play_all<K: KeyKind, V: Joining>(
     nodes: &mut [Node<K, V>],
     calls: &[Call<K, V>],
-    answers: &mut [Answer<K, V>],
+    answers: &mut [Reply<K, V>],
 ) -> Result<Book, RunRefusal>
     ensures plays_the_list_as_the_machine { Runs (K.KeyKind) V.Joining.joined nodes.old nodes.new calls.now answers.old answers.new result }
 {
     if answers.len() < calls.len() {
         return Err(RunRefusal::TooFewAnswers);
     }
-    let Ok(opened) = open(nodes) else {
-        return Err(RunRefusal::TooManyNodes);
-    };
-    let mut book = opened;
+    let mut book = open(nodes)?;
     play_each(nodes, &mut book, calls, answers);
     Ok(book)
 }

@@ -1,5 +1,5 @@
 -- Worked values, as one theorem over the definitions that the contracts use.
-use Rattle.std.specs.Prelude.{◌≡◌, ℕ, ◌^◌, ◌<◌, [], ◌∷◌}
+use Rattle.std.specs.Prelude.{◌≡◌, ℕ, ◌^◌, ◌<◌, [], ◌∷◌, Ok, Err}
 use Rattle.std.proofs.Common.{lit<}
 use Rattle.keys.specs.Model.{number, Precedes}
 use Rattle.keys.specs.Split.{split}
@@ -21,7 +21,7 @@ use Rattle.causes.specs.declared.cause.Cause.TheVariants.{TooFewNodes}
 use Rattle.pool.specs.Machine.{opened}
 use Rattle.runs.specs.declared.call.Call.{Call}
 use Rattle.runs.specs.declared.call.Call.TheVariants.{Put, Count, Free}
-use Rattle.runs.specs.declared.answer.Answer.TheVariants.{Done, Number, Refused}
+use Rattle.runs.specs.declared.answer.Answer.TheVariants.{Done, Number}
 use Rattle.runs.specs.Runs.{told}
 
 -- a word from its numbers
@@ -60,6 +60,6 @@ pub record Values : Type 0 where
   pub lamp_width : pair_width hours_kind.WIDTH (pair_width tags_kind.WIDTH setting_kind.WIDTH) ≡ 14
   -- a pool of three: lights 3 and 5 leave no node free, a third light is refused, news of light 3 is not
   pub pool_of_three : told word_kind marks (opened 3) (put_word 3 (lit< tt) ∷ put_word 5 (lit< tt) ∷ Free ∷ put_word 9 (lit< tt) ∷ put_word 3 (lit< tt) ∷ Count 0 ∷ [])
-      ≡ Done ∷ Done ∷ Number 0 ∷ Refused TooFewNodes ∷ Done ∷ Number 2 ∷ []
+      ≡ Ok Done ∷ Ok Done ∷ Ok (Number 0) ∷ Err TooFewNodes ∷ Ok Done ∷ Ok (Number 2) ∷ []
   -- a pool of none has no room for any light
-  pub pool_of_none : told word_kind marks (opened 0) (put_word 3 (lit< tt) ∷ []) ≡ Refused TooFewNodes ∷ []
+  pub pool_of_none : told word_kind marks (opened 0) (put_word 3 (lit< tt) ∷ []) ≡ Err TooFewNodes ∷ []

@@ -11,18 +11,17 @@ loop-i-preserved g c =
     let x = c.index-calls-i.result in
     let i = c.loop-i.i in
     let old = c.loop-i.answers in
-    let a = c.play-answer.result in
+    let a = c.play.result in
+    let st = c.store.ensures.stored in
     let rest = drop (i + 1) xs in
     let lt : i < length old = omega (arith, c.loop-i.invariant.2) in
-    let is = c.index-calls-i.is in
-    let st = c.store.ensures.stored in
     let d : drop (i + 1) (set old i a) ≡ drop (i + 1) old = drop-set-lt (i + 1) old i a (omega arith) in
     let e : drop (i + 1) old ≡ drop (i + 1) c.args.answers.now =
     sym (drop-drop 1 i old) ∙ (ap (drop 1) c.loop-i.invariant.1 ∙ drop-drop 1 i c.args.answers.now) in (
       (λ m h.
           let was = c.loop-i.invariant.0 m h in
           let n = was.0 in
-          let t = c.play-answer.ensures.answers_and_leaves_as_the_machine n was.1 in
+          let t = c.play.ensures.answers_and_leaves_as_the_machine n was.1 in
           let t0 = t.0 in
           let w2 = was.2 in
           let w3 = was.3 in
