@@ -1,5 +1,5 @@
 use keys::Word;
-use pool::{Account, Book, Node, Shelf};
+use pool::{Account, Book, Node, SHELVES, Shelf};
 use records::Mark;
 
 /// One change to a pool in good order.
@@ -23,7 +23,7 @@ impl Harm {
             }
             Harm::Row { shelf, row } => {
                 // Not by `get_mut`: tried, and after it the book is not known to have eight rows.
-                if shelf < 8 {
+                if shelf < SHELVES {
                     book.shelves[shelf as usize] = row;
                 }
             }

@@ -8,7 +8,7 @@ ghost use Rattle.pool.specs.Promises.{Asked};
 
 use crate::row::row_of;
 use keys::KeyKind;
-use pool::{Book, CountRefusal, Node, SHELVES, WalkRefusal};
+use pool::{Book, CountRefusal, Node, WalkRefusal};
 use records::RecordKind;
 
 /// The record at a key of a shelf, or none.
@@ -45,23 +45,16 @@ fn the_book_tells<K: KeyKind, V: RecordKind>(book: &Book)
     ensures free_nodes { (join : V → V → V) (ns : List (Node K V)) (m : Machine K V) → Holds (K.KeyKind) join ns book.now m → book.now.account.free ≡ free_in (K.KeyKind) m }
 {}
 
-// What a shelf's row states.
-fn keys_of(book: &Book, shelf: u8) -> u16
-    requires of_a_shelf { shelf < 8 }
-    ensures from_its_row { result ≡ (slice_index_or book.now.shelves shelf empty_row).keys }
-{
-    book.shelves[shelf as usize].keys
-}
-
 /// The number of keys of a shelf, from the book.
 pub fn count<K: KeyKind, V: RecordKind>(book: &Book, shelf: u8) -> Result<u16, CountRefusal>
     ensures answers_as_every_machine_held { (join : V → V → V) → Counted (K.KeyKind) join book.now shelf result }
 {
     the_book_tells::<K, V>(book);
-    if shelf >= SHELVES {
-        return Err(CountRefusal::NoSuchShelf);
-    }
-    Ok(keys_of(book, shelf))
+    let row = book
+        .shelves
+        .get(shelf as usize)
+        .ok_or(CountRefusal::NoSuchShelf)?;
+    Ok(row.keys)
 }
 
 /// The number of free nodes, from the book.

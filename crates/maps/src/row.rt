@@ -1,6 +1,6 @@
 ghost use Rattle.maps.specs.Rows.{RowOf};
 
-use pool::{Book, Node, SHELVES, Shelf, WalkRefusal};
+use pool::{Book, Node, Shelf, WalkRefusal};
 
 /// The row of a shelf, once shelf number and slice length are found right.
 pub fn row_of<K: Copy, V: Copy>(
@@ -10,11 +10,12 @@ pub fn row_of<K: Copy, V: Copy>(
 ) -> Result<Shelf, WalkRefusal>
     ensures row_or_refusal { RowOf nodes.now book.now shelf result }
 {
-    if shelf >= SHELVES {
-        return Err(WalkRefusal::NoSuchShelf);
-    }
+    let row = book
+        .shelves
+        .get(shelf as usize)
+        .ok_or(WalkRefusal::NoSuchShelf)?;
     if nodes.len() != book.account.capacity as usize {
         return Err(WalkRefusal::OutOfOrder);
     }
-    Ok(book.shelves[shelf as usize])
+    Ok(*row)
 }
