@@ -1,5 +1,5 @@
 // Numbers of a fixed count of bytes.
-ghost use Rattle.std.specs.Prelude.{◌≡◌, ◌≤◌, ℕ};
+ghost use Rattle.std.specs.Prelude.{◌≡◌, ◌≢◌, ◌≤◌, ℕ, length};
 ghost use Rattle.std.proofs.Common.{rules, arith};
 ghost use Rattle.number_bytes.specs.BigEndian.{ReadsNumber, WrittenAs, big_endian};
 
@@ -16,8 +16,18 @@ pub trait FixedWidth<const N: usize>: Copy {
     fn from_array(bytes: &[u8; N]) -> Self
         ensures reads_them { WrittenAs N bytes.now (number result) };
 
+    /// Fills a slice of exactly `N` bytes with the number's, and leaves any other slice as it was.
+    fn write(self, out: &mut [u8])
+        ensures fills_so_many { length out.old ≡ N → out.new ≡ big_endian N (number self) }
+        ensures other_length_unchanged { (length out.old ≢ N) → out.new ≡ out.old }
+    {
+        if out.len() == N {
+            out.copy_from_slice(&self.to_bytes());
+        }
+    }
+
     /// The number that the bytes of a slice write, or `None` where there are not `N`.
-    fn from_slice(bytes: &[u8]) -> Option<Self>
+    fn read(bytes: &[u8]) -> Option<Self>
         ensures reads_so_many { ReadsNumber number N bytes.now result }
     {
         let Ok(array) = <[u8; N]>::try_from(bytes) else {

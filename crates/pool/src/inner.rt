@@ -15,12 +15,7 @@ pub use crate::stack::Stack;
 pub fn node_at<K: Copy, V: Copy>(nodes: &[Node<K, V>], at: u16) -> Result<Node<K, V>, OutOfOrder>
     ensures node_or_past_end { MatchResult result (λ x. At nodes.now at x) (λ _. length nodes.now ≤ at) }
 {
-    let i = at as usize;
-    if i >= nodes.len() {
-        return Err(OutOfOrder);
-    }
-    let node = nodes[i];
-    Ok(node)
+    nodes.get(at as usize).copied().ok_or(OutOfOrder)
 }
 
 /// Writes a node; past the end it writes nothing.
@@ -29,6 +24,7 @@ pub fn write_node<K: Copy, V: Copy>(nodes: &mut [Node<K, V>], at: u16, node: Nod
     ensures past_end_unchanged { length nodes.old ≤ at → nodes.new ≡ nodes.old }
 {
     let i = at as usize;
+    // Not by `get_mut`, after which a proof knows of the slice its length alone.
     if i < nodes.len() {
         nodes[i] = node;
     }
@@ -45,18 +41,15 @@ pub fn take_free<K: Copy, V: Copy>(
         return Err(OutOfOrder);
     }
     let at = account.head;
-    let node = node_at(nodes, at)?;
-    match node {
-        Node::Free { next } => Ok((
-            at,
-            Account {
-                capacity: account.capacity,
-                head: next,
-                free: account.free - 1,
-            },
-        )),
-        _ => Err(OutOfOrder),
-    }
+    let Node::Free { next } = node_at(nodes, at)? else {
+        return Err(OutOfOrder);
+    };
+    let after = Account {
+        capacity: account.capacity,
+        head: next,
+        free: account.free - 1,
+    };
+    Ok((at, after))
 }
 
 /// Gives a node back to the free chain.
@@ -67,10 +60,7 @@ pub fn release<K: Copy, V: Copy>(
 ) -> Result<Account, OutOfOrder>
     ensures first_of_chain_now { MatchResult result (λ a. Released nodes.old nodes.new account at a) (λ _. ((length nodes.old ≤ at) ⊎ (account.capacity ≤ account.free)) × (nodes.new ≡ nodes.old)) }
 {
-    if at as usize >= nodes.len() {
-        return Err(OutOfOrder);
-    }
-    if account.free >= account.capacity {
+    if at as usize >= nodes.len() || account.free >= account.capacity {
         return Err(OutOfOrder);
     }
     write_node(nodes, at, Node::Free { next: account.head });

@@ -33,14 +33,11 @@ impl RecordKind for Hours {
     ghost distinct = { λ h a b e. hours_same a b (same_from_bytes 4 a.count b.count a.fits b.fits e) };
 
     fn write(self, out: &mut [u8]) {
-        if out.len() != Self::WIDTH as usize {
-            return;
-        }
-        out.copy_from_slice(&self.count.to_bytes());
+        self.count.write(out);
     }
 
     fn read(from: &[u8]) -> Option<Hours> {
-        let count = u32::from_slice(from)?;
+        let count = u32::read(from)?;
         Some(Hours { count })
     }
 }

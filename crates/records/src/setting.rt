@@ -59,9 +59,9 @@ impl RecordKind for Setting {
         if out.len() != Self::WIDTH as usize {
             return;
         }
-        out[0..4].copy_from_slice(&self.stamp.to_bytes());
-        out[4..6].copy_from_slice(&self.source.to_bytes());
-        out[6..8].copy_from_slice(&self.word.to_bytes());
+        self.stamp.write(&mut out[0..4]);
+        self.source.write(&mut out[4..6]);
+        self.word.write(&mut out[6..8]);
     }
 
     fn read(from: &[u8]) -> Option<Setting> {
@@ -71,9 +71,9 @@ impl RecordKind for Setting {
         let (stamp, rest) = from.split_at(4);
         let (source, word) = rest.split_at(2);
         Some(Setting {
-            stamp: u32::from_slice(stamp)?,
-            source: u16::from_slice(source)?,
-            word: u16::from_slice(word)?,
+            stamp: u32::read(stamp)?,
+            source: u16::read(source)?,
+            word: u16::read(word)?,
         })
     }
 }

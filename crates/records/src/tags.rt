@@ -35,14 +35,11 @@ impl RecordKind for Tags {
     ghost distinct = { λ h a b e. tags_same a b (same_from_bytes 2 a.bits b.bits a.fits b.fits e) };
 
     fn write(self, out: &mut [u8]) {
-        if out.len() != Self::WIDTH as usize {
-            return;
-        }
-        out.copy_from_slice(&self.bits.to_bytes());
+        self.bits.write(out);
     }
 
     fn read(from: &[u8]) -> Option<Tags> {
-        let bits = u16::from_slice(from)?;
+        let bits = u16::read(from)?;
         Some(Tags { bits })
     }
 }
