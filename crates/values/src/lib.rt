@@ -1,5 +1,5 @@
-//! Worked values: one theorem that the checker computes, over the definitions that the contracts use, and tests of
-//! what no contract can hold.
+//! Worked values: one theorem that the checker computes, over the definitions that the contracts use, and a test of
+//! constants as they are compiled.
 
 #![tactic(auto)]
 
@@ -19,7 +19,7 @@ mod tests {
     use super::*;
     use records::{Hours, Lamp, Pair, RecordKind};
 
-    // No contract holds the constants of a generic kind: this test does.
+    // The check proves the constants of a pair; this shows them of the compiled code.
     #[test]
     fn constants_of_pairs(rt: HostRuntime) {
         assert_eq!(rt; <Lamp as RecordKind>::CODE, 563);
