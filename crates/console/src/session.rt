@@ -3,10 +3,10 @@ ghost use Rattle.std.specs.Prelude.{◌≡◌, ℕ, List, [], ◌∷◌, ◌++�
 
 use crate::store::Store;
 use crate::task::Task;
-use crate::wording::{spoken, task};
+use crate::wording::spoken;
 use anyhow::anyhow;
 use runs::Call as PoolCall;
-use script::{Answer, Call, Line, parse};
+use script::{Answer, BadLine, Call, parse};
 use std::io;
 use std::io::{BufRead, BufReader};
 
@@ -26,9 +26,9 @@ pub(crate) fn run(rt: &HostRuntime) -> anyhow::Result<()> {
             break;
         }
         match parse(without_line_feed(line.as_slice())) {
-            Line::Blank => {}
-            Line::Call(call) => carry_out(rt, &mut store, call)?,
-            Line::Bad => rt.println(Answer::BadLine(number))?,
+            Ok(None) => {}
+            Ok(Some(call)) => carry_out(rt, &mut store, call)?,
+            Err(BadLine) => rt.println(Answer::BadLine(number))?,
         }
     }
     Ok(())
@@ -38,14 +38,11 @@ fn without_line_feed(line: &[u8]) -> &[u8]
     ensures cuts_the_line_feed { (text : List ℕ) → line.now ≡ text ++ (10 ∷ []) → result.now ≡ text }
     ensures keeps_another_line { ((text : List ℕ) → line.now ≢ text ++ (10 ∷ [])) → result.now ≡ line.now }
 {
-    match line.strip_suffix(b"\n") {
-        Some(text) => text,
-        None => line,
-    }
+    line.strip_suffix(b"\n").unwrap_or(line)
 }
 
 fn carry_out(rt: &HostRuntime, store: &mut Store, call: Call) -> io::Result<()> {
-    match task(call) {
+    match Task::from(call) {
         Task::Open(nodes) => open(rt, store, nodes),
         Task::List(shelf) => list(rt, store, shelf),
         Task::Play(call) => rt.println(spoken(call, store.play(&call))),
@@ -69,11 +66,11 @@ fn list(rt: &HostRuntime, store: &mut Store, shelf: u8) -> io::Result<()> {
     for count in 0..=MOST_KEYS {
         let next = PoolCall::Next { shelf, bound };
         match spoken(next, store.play(&next)) {
-            Answer::Entry(key, record) => {
-                rt.println(Answer::Entry(key, record))?;
+            Answer::Entry(Some((key, record))) => {
+                rt.println(Answer::Entry(Some((key, record))))?;
                 bound = Some(key);
             }
-            Answer::Nothing => return rt.println(Answer::End(count)),
+            Answer::Entry(None) => return rt.println(Answer::End(count)),
             refused => return rt.println(refused),
         }
     }

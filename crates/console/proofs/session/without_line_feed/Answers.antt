@@ -1,23 +1,27 @@
-use Rattle.std.proofs.Common.{[], ◌∷◌, sym, refl, ◌∙◌}
+use Rattle.std.proofs.Common.{◌≡◌, ℕ, List, [], ◌∷◌, ◌++◌, Some, None, Option, MatchOption, unwrap_or, sym, refl, ap, ◌∙◌}
+use Rattle.std.specs.Borrow.{Bor}
 use Rattle.console.proofs.session.without_line_feed.Goals as goal
 use Rattle.std.proofs.lemmas.Slice.Eq.{strip_suffix_is}
 use Rattle.std.proofs.lemmas.List.{append_cancel_right}
-use Rattle.std.proofs.lemmas.Option.{MatchOption-at_some, MatchOption-at_none}
 use Rattle.std.proofs.lemmas.Bool.Decides.{Decides-eqb}
 
-pub returns-in-Some : goal.returns-in-Some
-returns-in-Some c =
-    let line = c.args.line.now in
-    let told = strip_suffix_is Decides-eqb line (10 ∷ []) c.strip_suffix.result c.strip_suffix.ensures.cases in
-    let cut = MatchOption-at_some _ _ c.in-Some.text c.in-Some.is told in
-    record {
-      cuts_the_line_feed = λ text e. append_cancel_right c.in-Some.text.now text (10 ∷ []) (sym cut ∙ e);
-      keeps_another_line = λ other. absurd (other c.in-Some.text.now cut);
-    }
+abbrev Told : List ℕ → Option (Bor (List ℕ)) → Type 0
+Told line r = MatchOption r ((front : List ℕ) → line ≡ front ++ (10 ∷ []) → ⊥) (λ x. line ≡ x.now ++ (10 ∷ []))
 
-pub returns-in-None : goal.returns-in-None
-returns-in-None c =
-    let line = c.args.line.now in
-    let told = strip_suffix_is Decides-eqb line (10 ∷ []) c.strip_suffix.result c.strip_suffix.ensures.cases in
-    let whole = MatchOption-at_none _ _ c.in-None.is told in
-    record { cuts_the_line_feed = λ text e. absurd (whole text e); keeps_another_line = λ other. refl }
+cut : (line : Bor (List ℕ)) (r : Option (Bor (List ℕ))) → Told line.now r → (text : List ℕ) → line.now ≡ text ++ (10 ∷ []) → (unwrap_or r line).now ≡ text
+cut line None other text e = absurd (other text e)
+cut line (Some x) same text e = append_cancel_right x.now text (10 ∷ []) (sym same ∙ e)
+
+kept : (line : Bor (List ℕ)) (r : Option (Bor (List ℕ))) → Told line.now r → ((text : List ℕ) → line.now ≡ text ++ (10 ∷ []) → ⊥) → (unwrap_or r line).now ≡ line.now
+kept line None told other = refl
+kept line (Some x) same other = absurd (other x.now same)
+
+pub returns : goal.returns
+returns c =
+    let line = c.args.line in
+    let told = strip_suffix_is Decides-eqb line.now (10 ∷ []) c.strip_suffix.result c.strip_suffix.ensures.cases in
+    let same = ap (λ b. b.now) c.unwrap_or.ensures in
+    record {
+      cuts_the_line_feed = λ text e. same ∙ cut line c.strip_suffix.result told text e;
+      keeps_another_line = λ other. same ∙ kept line c.strip_suffix.result told other;
+    }
