@@ -1,6 +1,4 @@
 //! A run of the console: lines in, answers out.
-ghost use Rattle.std.specs.Prelude.{◌≡◌, ℕ, List, [], ◌∷◌, ◌++◌, ◌≢◌};
-
 use crate::store::Store;
 use crate::task::Task;
 use crate::wording::spoken;
@@ -15,30 +13,18 @@ const MOST_KEYS: u16 = 2048;
 
 /// Carries out a script to its end, and prints each answer before the next line is read.
 pub(crate) fn run(rt: &HostRuntime) -> anyhow::Result<()> {
-    let mut input = BufReader::new(rt.alloc(), rt.stdin())?;
+    let input = BufReader::new(rt.alloc(), rt.stdin())?;
     let Ok(mut store) = Store::open(rt.alloc(), 0)? else {
         return Err(anyhow!("a pool of no nodes was refused"));
     };
-    let mut line = Vec::new(rt.alloc());
-    for number in 1..u64::MAX {
-        line.clear();
-        if input.read_until(b'\n', &mut line)? == 0 {
-            break;
-        }
-        match parse(without_line_feed(line.as_slice())) {
+    for (line, number) in input.split(rt.alloc(), b'\n').zip(1..u64::MAX) {
+        match parse(line?.as_slice()) {
             Ok(None) => {}
             Ok(Some(call)) => carry_out(rt, &mut store, call)?,
             Err(BadLine) => rt.println(Answer::BadLine(number))?,
         }
     }
     Ok(())
-}
-
-fn without_line_feed(line: &[u8]) -> &[u8]
-    ensures cuts_the_line_feed { (text : List ℕ) → line.now ≡ text ++ (10 ∷ []) → result.now ≡ text }
-    ensures keeps_another_line { ((text : List ℕ) → line.now ≢ text ++ (10 ∷ [])) → result.now ≡ line.now }
-{
-    line.strip_suffix(b"\n").unwrap_or(line)
 }
 
 fn carry_out(rt: &HostRuntime, store: &mut Store, call: Call) -> io::Result<()> {

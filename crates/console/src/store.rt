@@ -18,6 +18,7 @@ pub(crate) struct Store {
 
 impl Store {
     /// A pool of so many nodes, in which every map is empty.
+    // Two results and no enum for both errors: a run ends where memory does, by `?`, and a refusal is only printed.
     pub(crate) fn open(heap: Global, count: u32) -> Result<Result<Store, OpenRefusal>, AllocError>
         ensures opens_an_empty_pool { IfOk result (λ opened. Opened count opened) }
     {

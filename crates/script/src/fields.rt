@@ -22,6 +22,7 @@ impl Words<'_> {
         T::try_from(spelled(self.next_word()?)?).ok()
     }
 
+    // With `number` in place of `shelf` and `nodes`, which say how wide these fields are, twenty goals of `call` stay open.
     pub(crate) fn shelf(&mut self) -> Option<u8>
         ensures reads_a_shelf { shelf (left self.old) ≡ given result (left self.new) }
     {
@@ -47,30 +48,28 @@ impl Words<'_> {
         ensures reads_a_key_or_the_end { optional key (left self.old) ≡ given result (left self.new) }
     {
         if self.is_empty() {
-            return Some(None);
+            Some(None)
+        } else {
+            self.key().map(Some)
         }
-        Some(Some(self.key()?))
     }
 
     pub(crate) fn record(&mut self) -> Option<Lamp>
         ensures reads_a_record { lamp (left self.old) ≡ given result (left self.new) }
     {
-        let hours = Hours {
-            count: self.number()?,
-        };
-        let tags = Tags {
-            bits: self.number()?,
-        };
-        let setting = Setting {
-            stamp: self.number()?,
-            source: self.number()?,
-            word: self.number()?,
-        };
         Some(Pair {
-            first: hours,
+            first: Hours {
+                count: self.number()?,
+            },
             second: Pair {
-                first: tags,
-                second: setting,
+                first: Tags {
+                    bits: self.number()?,
+                },
+                second: Setting {
+                    stamp: self.number()?,
+                    source: self.number()?,
+                    word: self.number()?,
+                },
             },
         })
     }
