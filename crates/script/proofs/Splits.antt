@@ -9,7 +9,7 @@ use Rattle.std.proofs.lemmas.List.Recursion.{is_position_or_len}
 use Rattle.std.proofs.lemmas.List.Sums.{prefix_len-le-length}
 use Rattle.script.specs.Cursor.{word_end}
 use Rattle.script.specs.Readings.{ended}
-use Rattle.std.proofs.lemmas.Bool.{ltb-false, ne_eqb}
+use Rattle.std.proofs.lemmas.Bool.{eqb-false, ltb-false, ne_eqb}
 use Rattle.script.specs.Splitting.{blank, comment_mark, carriage_return, unreturned, uncommented, in_front, pieces, filled, words_in}
 
 pub words_in_none : words_in [] ≡ []
@@ -20,15 +20,6 @@ words_in_none = refl
 pub words_in_blank : (b : ℕ) (bs : List ℕ) → blank b ≡ true → words_in (b ∷ bs) ≡ words_in bs
 unfolding words_in pieces filled in_front
 words_in_blank b bs e = rw e
-
-pub word_end_le : (text : List ℕ) → word_end text ≤ length text
-unfolding word_end
-word_end_le [] = omega arith
-word_end_le (b ∷ bs) = go (blank b) (word_end_le bs)
-  where
-    go : (t : Bool) → word_end bs ≤ length bs → cond t 0 (suc (word_end bs)) ≤ suc (length bs)
-    go true h = omega arith
-    go false h = omega arith
 
 -- the first piece, which may be empty, and what gives the other words
 record Front (text : List ℕ) : Type 0 where
@@ -52,6 +43,12 @@ words_in_front [] h e = absurd (omega arith)
 words_in_front (b ∷ bs) h e =
     let f = front (b ∷ bs) in
     ap filled f.first ∙ rw e (ap (λ (ws : List (List ℕ)). (b ∷ take (word_end bs) bs) ∷ ws) (rw e at f.rest))
+
+-- the same of a text that was cut where its first word ends
+pub first_word : (text word rest : List ℕ) (n : ℕ) → eqb (length text) 0 ≡ false → (0 < length text → blank (get_or text 0 0) ≡ false) → n ≡ word_end text → word ≡ take n text → rest ≡ drop n text → words_in text ≡ word ∷ words_in rest
+first_word text word rest n some begins end front back =
+    let long : 0 < length text = omega (arith, eqb-false _ _ some) in
+    rw (front, back, end) (words_in_front text long (begins long))
 
 -- a text that begins with no blank has no word only where it is empty
 pub ended_front : (text : List ℕ) → (0 < length text → blank (get_or text 0 0) ≡ false) → ended (words_in text) ≡ eqb (length text) 0
@@ -131,3 +128,6 @@ word_end_first = is_position_or_len word_end blank refl (λ b bs. go (blank b) b
     go : (t : Bool) (bs : List ℕ) → cond t 0 (suc (word_end bs)) ≡ cond t 0 (1 + word_end bs)
     go true bs = refl
     go false bs = omega arith
+
+pub word_end_le : (text : List ℕ) → word_end text ≤ length text
+word_end_le text = rw (word_end_first text) (prefix_len-le-length (λ b. not (blank b)) text)

@@ -19,7 +19,7 @@ impl Words<'_> {
         T::Error: Drop,
         ensures reads_a_number { Converted T.try_from_gives (value (2 ^ 32) (left self.old)) (given result (left self.new)) }
     {
-        T::try_from(spelled(self.next_word()?)?).ok()
+        T::try_from(spelled(self.next()?)?).ok()
     }
 
     // With `number` in place of `shelf` and `nodes`, which say how wide these fields are, twenty goals of `call` stay open.

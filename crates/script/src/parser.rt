@@ -55,11 +55,11 @@ pub fn parse(line: &[u8]) -> Result<Option<Call>, BadLine>
     ensures is_what_the_line_says { result ≡ said line.now }
 {
     let mut words = Words::of(line);
-    let Some(name) = words.next_word() else {
+    let Some(name) = words.next() else {
         return Ok(None);
     };
     let call = words.call(name).ok_or(BadLine)?;
-    match words.next_word() {
+    match words.next() {
         None => Ok(Some(call)),
         Some(_) => Err(BadLine),
     }

@@ -1,6 +1,7 @@
 //! The words of a line, taken from its front one by one.
 ghost use Rattle.std.specs.Prelude.{◌≡◌, ◌<◌, false, length, slice_index};
-ghost use Rattle.script.specs.Cursor.{left, word_end, Taken};
+ghost use Rattle.std.specs.Iterator.{YieldsFirstRef, item_count};
+ghost use Rattle.script.specs.Cursor.{left, word_end};
 ghost use Rattle.script.specs.Readings.{ended};
 ghost use Rattle.script.specs.Splitting.{blank, unreturned, uncommented, words_in, words};
 
@@ -24,11 +25,17 @@ impl<'a> Words<'a> {
     {
         without_blanks(self.rest).is_empty()
     }
+}
 
-    /// Takes the first word, where one is left.
-    pub(crate) fn next_word(&mut self) -> Option<&'a [u8]>
-        ensures takes_the_first { Taken (left self.old) result (left self.new) }
-    {
+/// Takes the first word, where one is left.
+impl<'a> Iterator for Words<'a> {
+    type Item = &'a [u8];
+
+    ghost next_gives = { YieldsFirstRef left };
+
+    ghost remaining = { item_count left };
+
+    fn next(&mut self) -> Option<&'a [u8]> {
         let text = without_blanks(self.rest);
         if text.is_empty() {
             return None;
