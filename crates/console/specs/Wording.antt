@@ -1,5 +1,5 @@
 -- What the console does at each call of a script, and what it says of each answer of the pool.
-use Rattle.std.specs.Prelude.{ℕ, Some, None, Option, Ok, Err}
+use Rattle.std.specs.Prelude.{ℕ, Ok, Err}
 use Rattle.console.specs.declared.task.Task.{Task}
 use Rattle.keys.specs.declared.values.Word.{Word}
 use Rattle.runs.specs.Runs.{Reply}
@@ -23,16 +23,6 @@ task_of (script.Clear s) = Task.Play (pool.Clear s)
 task_of (script.Count s) = Task.Play (pool.Count s)
 task_of script.Free = Task.Play pool.Free
 
--- the record of a key, or none
-abbrev pub found_record : Option Lamp → Answer
-found_record (Some r) = Answer.Record r
-found_record None = Answer.Nothing
-
--- a key with its record, or none
-abbrev pub found_entry : Option (Word × Lamp) → Answer
-found_entry (Some e) = Answer.Entry e.0 e.1
-found_entry None = Answer.Nothing
-
 -- a number: of nodes where the free ones were asked for, of keys elsewhere
 abbrev pub counted : PoolCall Word Lamp → ℕ → Answer
 counted (pool.Put s k r) n = Answer.Count n
@@ -46,7 +36,7 @@ counted pool.Free n = Answer.Free n
 -- what is said of what comes of a call
 abbrev pub spoken : PoolCall Word Lamp → Reply Word Lamp → Answer
 spoken call (Ok Done) = Answer.Done
-spoken call (Ok (Found found)) = found_record found
-spoken call (Ok (Entry found)) = found_entry found
+spoken call (Ok (Found found)) = Answer.Record found
+spoken call (Ok (Entry found)) = Answer.Entry found
 spoken call (Ok (Number n)) = counted call n
 spoken call (Err cause) = Answer.Refused cause

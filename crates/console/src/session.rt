@@ -1,12 +1,10 @@
 //! A run of the console: lines in, answers out.
-ghost use Rattle.std.specs.Prelude.{◌≡◌, ℕ, List, [], ◌∷◌, ◌++◌, ◌≢◌};
-
 use crate::store::Store;
 use crate::task::Task;
-use crate::wording::{spoken, task};
+use crate::wording::spoken;
 use anyhow::anyhow;
 use runs::Call as PoolCall;
-use script::{Answer, Call, Line, parse};
+use script::{Answer, BadLine, Call, parse};
 use std::io;
 use std::io::{BufRead, BufReader};
 
@@ -15,37 +13,22 @@ const MOST_KEYS: u16 = 2048;
 
 /// Carries out a script to its end, and prints each answer before the next line is read.
 pub(crate) fn run(rt: &HostRuntime) -> anyhow::Result<()> {
-    let mut input = BufReader::new(rt.alloc(), rt.stdin())?;
+    let input = BufReader::new(rt.alloc(), rt.stdin())?;
     let Ok(mut store) = Store::open(rt.alloc(), 0)? else {
         return Err(anyhow!("a pool of no nodes was refused"));
     };
-    let mut line = Vec::new(rt.alloc());
-    for number in 1..u64::MAX {
-        line.clear();
-        if input.read_until(b'\n', &mut line)? == 0 {
-            break;
-        }
-        match parse(without_line_feed(line.as_slice())) {
-            Line::Blank => {}
-            Line::Call(call) => carry_out(rt, &mut store, call)?,
-            Line::Bad => rt.println(Answer::BadLine(number))?,
+    for (line, number) in input.split(rt.alloc(), b'\n').zip(1..u64::MAX) {
+        match parse(line?.as_slice()) {
+            Ok(None) => {}
+            Ok(Some(call)) => carry_out(rt, &mut store, call)?,
+            Err(BadLine) => rt.println(Answer::BadLine(number))?,
         }
     }
     Ok(())
 }
 
-fn without_line_feed(line: &[u8]) -> &[u8]
-    ensures cuts_the_line_feed { (text : List ℕ) → line.now ≡ text ++ (10 ∷ []) → result.now ≡ text }
-    ensures keeps_another_line { ((text : List ℕ) → line.now ≢ text ++ (10 ∷ [])) → result.now ≡ line.now }
-{
-    match line.strip_suffix(b"\n") {
-        Some(text) => text,
-        None => line,
-    }
-}
-
 fn carry_out(rt: &HostRuntime, store: &mut Store, call: Call) -> io::Result<()> {
-    match task(call) {
+    match Task::from(call) {
         Task::Open(nodes) => open(rt, store, nodes),
         Task::List(shelf) => list(rt, store, shelf),
         Task::Play(call) => rt.println(spoken(call, store.play(&call))),
@@ -69,11 +52,11 @@ fn list(rt: &HostRuntime, store: &mut Store, shelf: u8) -> io::Result<()> {
     for count in 0..=MOST_KEYS {
         let next = PoolCall::Next { shelf, bound };
         match spoken(next, store.play(&next)) {
-            Answer::Entry(key, record) => {
-                rt.println(Answer::Entry(key, record))?;
+            Answer::Entry(Some((key, record))) => {
+                rt.println(Answer::Entry(Some((key, record))))?;
                 bound = Some(key);
             }
-            Answer::Nothing => return rt.println(Answer::End(count)),
+            Answer::Entry(None) => return rt.println(Answer::End(count)),
             refused => return rt.println(refused),
         }
     }

@@ -1,5 +1,5 @@
 //! The pool of maps that the console works on.
-ghost use Rattle.std.specs.Prelude.{◌≡◌, IfOk, vec_len};
+ghost use Rattle.std.specs.Prelude.{IfOk};
 ghost use Rattle.console.specs.Keeping.{Opened, Plays};
 
 use keys::Word;
@@ -18,11 +18,13 @@ pub(crate) struct Store {
 
 impl Store {
     /// A pool of so many nodes, in which every map is empty.
+    // Two results and no enum for both errors: a run ends where memory does, by `?`, and a refusal is only printed.
     pub(crate) fn open(heap: Global, count: u32) -> Result<Result<Store, OpenRefusal>, AllocError>
         ensures opens_an_empty_pool { IfOk result (λ opened. Opened count opened) }
     {
         // One node too many is refused as any number above it is, and takes little memory.
-        let mut nodes = free_nodes(heap, count.min(MOST_NODES + 1) as usize)?;
+        let count = count.min(MOST_NODES + 1) as usize;
+        let mut nodes = vec![in heap; Node::Free { next: 0 }; count]?;
         match open(nodes.as_mut_slice()) {
             Ok(book) => Ok(Ok(Store { nodes, book })),
             Err(refusal) => Ok(Err(refusal)),
@@ -34,14 +36,4 @@ impl Store {
     {
         play(self.nodes.as_mut_slice(), &mut self.book, call)
     }
-}
-
-fn free_nodes(heap: Global, count: usize) -> Result<Vec<Node<Word, Lamp>>, AllocError>
-    ensures has_so_many { IfOk result (λ nodes. vec_len nodes ≡ count) }
-{
-    let mut nodes = Vec::new(heap);
-    for _made in 0..count {
-        nodes.push(Node::Free { next: 0 })?;
-    }
-    Ok(nodes)
 }

@@ -1,9 +1,12 @@
 -- From a number that was read to the field that it is a part of.
-use Rattle.std.proofs.Common.{◌≡◌, ℕ, ◌^◌, ◌<◌, List, [], ◌∷◌, Some, None, Option, refl, ap, subst, arith}
+use Rattle.std.proofs.Common.{◌≡◌, ℕ, ◌^◌, ◌<◌, ◌≤◌, List, [], ◌∷◌, Ok, Err, Some, None, Option, Result, OkIff, sym, refl, ap, ◌∙◌, subst, arith}
 use native.Mathlib.Bridge.{le_prop}
-use Rattle.script.specs.Numerals.{Below, numeral, below, plain}
-use Rattle.script.specs.Readings.{return, following, given, number, value}
+use native.Mathlib.Decide.{dec_lt}
+use Rattle.std.specs.Result.{result_ok}
+use Rattle.script.specs.Numerals.{Below, numeral, tested, below, plain}
+use Rattle.script.specs.Readings.{return, following, given, number, value, Converted}
 use Rattle.script.specs.Values.{key, lamp}
+use Rattle.script.proofs.Digits.{below_fits, below_over}
 
 -- two numbers below a limit are the same where their values are
 below_same : {limit : ℕ} (a : Below limit) (n : ℕ) (h : n < limit) → a.value ≡ n → a ≡ record { value = n; fits = h }
@@ -27,6 +30,29 @@ value_of limit w ws = go (below limit (numeral 0 w))
 pub value_none : (limit : ℕ) → value limit [] ≡ None
 unfolding value number
 value_none limit = refl
+
+-- a number that was converted to a type with room below a limit is a number below that limit
+module _ (E : Type 0) (limit : ℕ) (small : limit ≤ 2 ^ 32) where
+  abbrev Room : ℕ → Result ℕ E → Type 0
+  Room n t = OkIff t (n < limit) n
+
+  narrowed : (n : ℕ) (t : Result ℕ E) → Room n t → plain (below limit (Some n)) ≡ result_ok t
+  unfolding numeral
+  narrowed n (Ok x) h = rw (below_fits limit n h.0) (ap (λ (m : ℕ). Some m) (sym h.1))
+  narrowed n (Err e) h = ap plain (below_over limit n [] (omega (arith, h)))
+
+  converted : (ws : List (List ℕ)) (read : Option (ℕ × List (List ℕ))) (o : Option ℕ) → Converted Room (given (plain (below (2 ^ 32) o)) ws) read → given (plain (below limit o)) ws ≡ read
+  unfolding below numeral
+  converted ws read None h = sym h
+  converted ws read (Some n) h = held (dec_lt n (2 ^ 32)) h
+    where
+      held : (d : Dec (n < 2 ^ 32)) → Converted Room (given (plain (tested d)) ws) read → given (plain (below limit (Some n))) ws ≡ read
+      held (yes q) h = ap (λ o. given o ws) (narrowed n h.0 h.1) ∙ h.2
+      held (no q) h = ap (λ o. given (plain o) ws) (below_over limit n [] (omega (arith, q))) ∙ sym h
+
+  pub value_read : (ws : List (List ℕ)) (read : Option (ℕ × List (List ℕ))) → Converted Room (value (2 ^ 32) ws) read → value limit ws ≡ read
+  value_read [] read h = value_none limit ∙ sym (rw (value_none (2 ^ 32)) at h)
+  value_read (w ∷ ws) read h = value_of limit w ws ∙ converted ws read (numeral 0 w) (rw (value_of (2 ^ 32) w ws) at h)
 
 module _ (limit : ℕ) (ws : List (List ℕ)) where
   pub number_none : value limit ws ≡ None → number limit ws ≡ None

@@ -1,5 +1,5 @@
 -- A call that is printed as its line reads back.
-use Rattle.std.proofs.Common.{◌≡◌, ℕ, ◌+◌, ◌-◌, ◌*◌, ◌^◌, ◌<◌, ◌≤◌, true, List, [], ◌∷◌, length, Some, None, decimal, refl, ap, ◌∙◌, arith, rules}
+use Rattle.std.proofs.Common.{◌≡◌, ℕ, ◌+◌, ◌-◌, ◌*◌, ◌^◌, ◌<◌, ◌≤◌, true, List, [], ◌∷◌, length, Ok, Some, None, decimal, refl, ap, ◌∙◌, arith, rules}
 use Rattle.std.specs.Char.{is_ascii_digit}
 use Rattle.std.specs.List.{AllByRecursion}
 use Rattle.std.specs.Str.{all_ascii_digits}
@@ -9,7 +9,6 @@ use Rattle.std.proofs.lemmas.Bool.{and_parts, leb-true}
 use Rattle.keys.specs.declared.values.Word.{Word}
 use Rattle.script.specs.declared.call.Call.{Call}
 use Rattle.script.specs.declared.call.Call.TheVariants.{Open, Put, Look, Remove, Next, List as Listing, Clear, Count, Free}
-use Rattle.script.specs.declared.line.Line.{Line}
 use Rattle.script.specs.Forms.{meaning}
 use Rattle.script.specs.Numerals.{numeral}
 use Rattle.script.specs.Agreement.{Fitting, Agrees}
@@ -99,7 +98,7 @@ shelf_reads s ws h = value_decimal_read (2 ^ 8) s ws h (omega arith)
 nodes_reads : (n : ℕ) (ws : List (List ℕ)) → n < 2 ^ 32 → nodes (decimal n ∷ ws) ≡ Some (n, ws)
 nodes_reads n ws h = value_decimal_read (2 ^ 32) n ws h (omega arith)
 
-meaning_reads : (c : Call) → Fitting c → meaning (call_words c) ≡ Line.Call c
+meaning_reads : (c : Call) → Fitting c → meaning (call_words c) ≡ Ok (Some c)
 meaning_reads (Open n) h = rw (nodes_reads n [] h)
 meaning_reads (Put s k r) h = rw (shelf_reads s _ h, key_reads k _, lamp_reads r)
 meaning_reads (Look s k) h = rw (shelf_reads s _ h, key_reads k _)

@@ -1,10 +1,9 @@
 -- Printing and parsing agree: the line of a call says that call.
-use Rattle.std.specs.Prelude.{◌≡◌, ◌^◌, ◌<◌}
+use Rattle.std.specs.Prelude.{◌≡◌, ◌^◌, ◌<◌, Ok, Some}
 use Rattle.script.specs.Forms.{said}
 use Rattle.script.specs.Printing.{line_of}
 use Rattle.script.specs.declared.call.Call.TheVariants.{Open, Put, Look, Remove, Next, List as Listing, Clear, Count, Free}
 use Rattle.script.specs.declared.call.Call.{Call}
-use Rattle.script.specs.declared.line.Line.{Line}
 
 -- the numbers of a call fit their types, as they do of every call that a program makes
 abbrev pub Fitting : Call → Type 0
@@ -20,4 +19,4 @@ Fitting Free = Unit {0}
 
 -- the line that is printed of a call says that call
 abbrev pub Agrees : Type 0
-Agrees = (c : Call) → Fitting c → said (line_of c) ≡ Line.Call c
+Agrees = (c : Call) → Fitting c → said (line_of c) ≡ Ok (Some c)

@@ -1,8 +1,8 @@
 -- The language of the console: what a line says, with a row for each call.
-use Rattle.std.specs.Prelude.{ℕ, cond, List, [], ◌∷◌, Some, None, codes, Option}
+use Rattle.std.specs.Prelude.{ℕ, cond, List, [], ◌∷◌, Some, None, codes, Option, Ok, Err, Result}
 use Rattle.std.specs.Str.{bytes_eq}
 use Rattle.script.specs.declared.call.Call.{Call}
-use Rattle.script.specs.declared.line.Line.{Line}
+use Rattle.script.specs.declared.bad_line.BadLine.{BadLine}
 use Rattle.script.specs.Readings.{Reading, return, ◌>>=◌, optional, shelf, nodes}
 use Rattle.script.specs.Splitting.{words}
 use Rattle.script.specs.Values.{key, lamp}
@@ -85,21 +85,25 @@ form name =
     (at name (codes "count") count_form
     (at name (codes "free") free_form no_form))))))))
 
+-- words that spell no call
+abbrev pub bad : Result (Option Call) BadLine
+bad = Err (record {})
+
 -- a call is a line's only if no word is left over
-abbrev pub alone : Call → List (List ℕ) → Line
-alone c [] = Line.Call c
-alone c (w ∷ ws) = Line.Bad
+abbrev pub alone : Call → List (List ℕ) → Result (Option Call) BadLine
+alone c [] = Ok (Some c)
+alone c (w ∷ ws) = bad
 
 -- a line's words behind its name, read or not
-abbrev pub whole : Option (Call × List (List ℕ)) → Line
-whole None = Line.Bad
+abbrev pub whole : Option (Call × List (List ℕ)) → Result (Option Call) BadLine
+whole None = bad
 whole (Some x) = alone x.0 x.1
 
 -- what words say: nothing, a call, or something that is no call
-abbrev pub meaning : List (List ℕ) → Line
-meaning [] = Line.Blank
+abbrev pub meaning : List (List ℕ) → Result (Option Call) BadLine
+meaning [] = Ok None
 meaning (name ∷ ws) = whole (form name ws)
 
 -- what a line says
-abbrev pub said : List ℕ → Line
+abbrev pub said : List ℕ → Result (Option Call) BadLine
 said line = meaning (words line)

@@ -33,9 +33,10 @@ line_of c = spaced (call_words c)
 -- the words of each answer
 abbrev pub answer_words : Answer → List (List ℕ)
 answer_words answer.Done = codes "ok" ∷ []
-answer_words (answer.Record r) = codes "record" ∷ lamp_words r
-answer_words answer.Nothing = codes "none" ∷ []
-answer_words (answer.Entry k r) = codes "entry" ∷ key_word k ∷ lamp_words r
+answer_words (answer.Record None) = codes "none" ∷ []
+answer_words (answer.Record (Some r)) = codes "record" ∷ lamp_words r
+answer_words (answer.Entry None) = codes "none" ∷ []
+answer_words (answer.Entry (Some e)) = codes "entry" ∷ key_word e.0 ∷ lamp_words e.1
 answer_words (answer.End n) = codes "end" ∷ decimal n ∷ []
 answer_words (answer.Count n) = codes "count" ∷ decimal n ∷ []
 answer_words (answer.Free n) = codes "free" ∷ decimal n ∷ []

@@ -1,5 +1,6 @@
 -- Readings: what is taken from the front of a list of words.
-use Rattle.std.specs.Prelude.{ℕ, ◌^◌, Bool, true, false, cond, List, [], ◌∷◌, Some, None, Option}
+use Rattle.std.specs.Prelude.{ℕ, ◌^◌, Bool, true, false, cond, List, [], ◌∷◌, Some, None, Option, Result, ◌≡◌}
+use Rattle.std.specs.Result.{result_ok}
 use Rattle.script.specs.Numerals.{numeral, Below, below}
 
 -- a reading gives a value and the words that are left, or nothing
@@ -43,6 +44,11 @@ unfoldable pub value : ℕ → Reading ℕ
 value limit = do
   n ← number limit
   return n.value
+
+-- a number that was read gives what the conversion makes of it, and nothing where the conversion fails
+abbrev pub Converted : {T E : Type 0} → (ℕ → Result T E → Type 0) → Option (ℕ × List (List ℕ)) → Option (T × List (List ℕ)) → Type 0
+Converted gives None read = read ≡ None
+Converted {T} {E} gives (Some x) read = (t : Result T E) × gives x.0 t × (given (result_ok t) x.1 ≡ read)
 
 -- the number of a shelf has 8 bits
 abbrev pub shelf : Reading ℕ

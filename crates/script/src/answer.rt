@@ -12,12 +12,10 @@ use std::fmt;
 pub enum Answer {
     /// The call was carried out.
     Done,
-    /// The record at the key.
-    Record(Lamp),
-    /// There is no record at the key.
-    Nothing,
-    /// A key with its record.
-    Entry(Word, Lamp),
+    /// The record at the key, or none.
+    Record(Option<Lamp>),
+    /// A key with its record, or none.
+    Entry(Option<(Word, Lamp)>),
     /// The list is whole, with so many entries.
     End(u16),
     /// A shelf has so many keys.
@@ -35,9 +33,11 @@ impl fmt::Display for Answer {
     fn fmt<W: fmt::Write>(&self, f: &mut fmt::Formatter<W>) -> fmt::Result {
         match self {
             Answer::Done => write!(f, "ok"),
-            Answer::Record(record) => write!(f, "record {}", Fields(record)),
-            Answer::Nothing => write!(f, "none"),
-            Answer::Entry(key, record) => write!(f, "entry {} {}", key.light, Fields(record)),
+            Answer::Record(Some(record)) => write!(f, "record {}", Fields(record)),
+            Answer::Entry(Some((key, record))) => {
+                write!(f, "entry {} {}", key.light, Fields(record))
+            }
+            Answer::Record(None) | Answer::Entry(None) => write!(f, "none"),
             Answer::End(count) => write!(f, "end {count}"),
             Answer::Count(keys) => write!(f, "count {keys}"),
             Answer::Free(nodes) => write!(f, "free {nodes}"),

@@ -1,54 +1,45 @@
 //! The fields of calls and answers, read and printed: the one place that knows how keys and
 //! records are made.
-ghost use Rattle.std.specs.Prelude.{◌≡◌, suc, ◌^◌, ◌≤◌, IfSome, Some};
+ghost use Rattle.std.specs.Prelude.{◌≡◌, ◌^◌, Some};
 ghost use Rattle.script.specs.Cursor.{left};
-ghost use Rattle.script.specs.Readings.{given, optional, value, shelf, nodes};
+ghost use Rattle.script.specs.Readings.{given, optional, value, shelf, nodes, Converted};
 ghost use Rattle.script.specs.Values.{key, lamp, lamp_words};
 ghost use Rattle.script.specs.Printing.{spaced};
 
-use crate::number::number_at_most;
+use crate::number::spelled;
 use crate::words::Words;
 use keys::Word;
 use records::{Hours, Lamp, Pair, Setting, Tags};
 use std::fmt;
 
 impl Words<'_> {
-    fn number(&mut self, most: u32) -> Option<u32>
-        ensures reads_a_number { value (suc most) (left self.old) ≡ given result (left self.new) }
-        ensures is_at_most { IfSome result (λ n. n ≤ most) }
+    /// A number, where its type has room for it.
+    pub(crate) fn number<T: TryFrom<u32>>(&mut self) -> Option<T>
+    where
+        T::Error: Drop,
+        ensures reads_a_number { Converted T.try_from_gives (value (2 ^ 32) (left self.old)) (given result (left self.new)) }
     {
-        number_at_most(self.next_word()?, most)
+        T::try_from(spelled(self.next()?)?).ok()
     }
 
-    fn short(&mut self) -> Option<u16>
-        ensures reads_a_number { value (2 ^ 16) (left self.old) ≡ given result (left self.new) }
-    {
-        Some(self.number(u16::MAX as u32)? as u16)
-    }
-
-    fn long(&mut self) -> Option<u32>
-        ensures reads_a_number { value (2 ^ 32) (left self.old) ≡ given result (left self.new) }
-    {
-        self.number(u32::MAX)
-    }
-
+    // With `number` in place of `shelf` and `nodes`, which say how wide these fields are, twenty goals of `call` stay open.
     pub(crate) fn shelf(&mut self) -> Option<u8>
         ensures reads_a_shelf { shelf (left self.old) ≡ given result (left self.new) }
     {
-        Some(self.number(u8::MAX as u32)? as u8)
+        self.number()
     }
 
     pub(crate) fn nodes(&mut self) -> Option<u32>
         ensures reads_nodes { nodes (left self.old) ≡ given result (left self.new) }
     {
-        self.long()
+        self.number()
     }
 
     pub(crate) fn key(&mut self) -> Option<Word>
         ensures reads_a_key { key (left self.old) ≡ given result (left self.new) }
     {
         Some(Word {
-            light: self.long()?,
+            light: self.number()?,
         })
     }
 
@@ -57,30 +48,28 @@ impl Words<'_> {
         ensures reads_a_key_or_the_end { optional key (left self.old) ≡ given result (left self.new) }
     {
         if self.is_empty() {
-            return Some(None);
+            Some(None)
+        } else {
+            self.key().map(Some)
         }
-        Some(Some(self.key()?))
     }
 
     pub(crate) fn record(&mut self) -> Option<Lamp>
         ensures reads_a_record { lamp (left self.old) ≡ given result (left self.new) }
     {
-        let hours = Hours {
-            count: self.long()?,
-        };
-        let tags = Tags {
-            bits: self.short()?,
-        };
-        let setting = Setting {
-            stamp: self.long()?,
-            source: self.short()?,
-            word: self.short()?,
-        };
         Some(Pair {
-            first: hours,
+            first: Hours {
+                count: self.number()?,
+            },
             second: Pair {
-                first: tags,
-                second: setting,
+                first: Tags {
+                    bits: self.number()?,
+                },
+                second: Setting {
+                    stamp: self.number()?,
+                    source: self.number()?,
+                    word: self.number()?,
+                },
             },
         })
     }

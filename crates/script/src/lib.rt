@@ -23,16 +23,16 @@
 #![tactic(auto)]
 
 mod answer;
+mod bad_line;
 mod call;
 mod fields;
-mod line;
 mod number;
 mod parser;
 mod round_trip;
 mod words;
 
 pub use answer::Answer;
+pub use bad_line::BadLine;
 pub use call::Call;
-pub use line::Line;
 pub use parser::parse;
 pub use round_trip::reread;

@@ -1,10 +1,10 @@
 //! Printing and parsing agree.
-ghost use Rattle.std.specs.Prelude.{◌≡◌, IfOk, string_bytes};
+ghost use Rattle.std.specs.Prelude.{◌≡◌, IfOk, Ok, Some, string_bytes};
 ghost use Rattle.script.specs.Agreement.{Agrees};
 ghost use Rattle.script.specs.Forms.{said};
 
+use crate::bad_line::BadLine;
 use crate::call::Call;
-use crate::line::Line;
 use crate::parser::parse;
 use std::alloc::{AllocError, Global};
 
@@ -14,15 +14,15 @@ pub fn lines_say_their_calls()
 {}
 
 /// A call printed as its line, and the line read again: it says that call.
-pub fn reread(heap: Global, call: Call) -> Result<Line, AllocError>
-    ensures says_the_call { IfOk result (λ line. line ≡ Line.Call call) }
+pub fn reread(heap: Global, call: Call) -> Result<Result<Option<Call>, BadLine>, AllocError>
+    ensures says_the_call { IfOk result (λ read. read ≡ Ok (Some call)) }
 {
     let line = printed(heap, call)?;
     Ok(parse(line.as_bytes()))
 }
 
 fn printed(heap: Global, call: Call) -> Result<String, AllocError>
-    ensures says_the_call { IfOk result (λ line. said (string_bytes line) ≡ Line.Call call) }
+    ensures says_the_call { IfOk result (λ line. said (string_bytes line) ≡ Ok (Some call)) }
 {
     format!(in heap; "{call}")
 }

@@ -1,8 +1,9 @@
 //! The words of a line, taken from its front one by one.
 ghost use Rattle.std.specs.Prelude.{◌≡◌, ◌<◌, false, length, slice_index};
-ghost use Rattle.script.specs.Cursor.{left, word_end, Taken};
+ghost use Rattle.std.specs.Iterator.{YieldsFirstRef, item_count};
+ghost use Rattle.script.specs.Cursor.{left, word_end};
 ghost use Rattle.script.specs.Readings.{ended};
-ghost use Rattle.script.specs.Splitting.{blank, comment_mark, carriage_return, unreturned, uncommented, words_in, words};
+ghost use Rattle.script.specs.Splitting.{blank, unreturned, uncommented, words_in, words};
 
 /// What is left of a line.
 #[derive(Drop)]
@@ -24,11 +25,17 @@ impl<'a> Words<'a> {
     {
         without_blanks(self.rest).is_empty()
     }
+}
 
-    /// Takes the first word, where one is left.
-    pub(crate) fn next_word(&mut self) -> Option<&'a [u8]>
-        ensures takes_the_first { Taken (left self.old) result (left self.new) }
-    {
+/// Takes the first word, where one is left.
+impl<'a> Iterator for Words<'a> {
+    type Item = &'a [u8];
+
+    ghost next_gives = { YieldsFirstRef left };
+
+    ghost remaining = { item_count left };
+
+    fn next(&mut self) -> Option<&'a [u8]> {
         let text = without_blanks(self.rest);
         if text.is_empty() {
             return None;
@@ -42,62 +49,40 @@ impl<'a> Words<'a> {
 fn is_blank(byte: u8) -> bool
     ensures tells_blanks { result ≡ blank byte }
 {
-    byte == b' ' || byte == b'\t'
-}
-
-fn is_comment_mark(byte: u8) -> bool
-    ensures tells_comment_marks { result ≡ comment_mark byte }
-{
-    byte == b'#'
-}
-
-fn is_carriage_return(byte: u8) -> bool
-    ensures tells_carriage_returns { result ≡ carriage_return byte }
-{
-    byte == b'\r'
+    matches!(byte, b' ' | b'\t')
 }
 
 fn without_return(line: &[u8]) -> &[u8]
     ensures cuts_the_return { result.now ≡ unreturned line.now }
 {
-    let length = line.len();
-    if length > 0 && is_carriage_return(line[length - 1]) {
-        &line[0..length - 1]
-    } else {
-        line
-    }
+    line.strip_suffix(b"\r").unwrap_or(line)
 }
 
 fn without_comment(line: &[u8]) -> &[u8]
     ensures cuts_the_comment { result.now ≡ uncommented line.now }
 {
-    for (i, byte) in line.iter().enumerate() {
-        if is_comment_mark(*byte) {
-            return &line[0..i];
-        }
-    }
-    line
+    let end = line
+        .iter()
+        .position(|byte| *byte == b'#')
+        .unwrap_or(line.len());
+    &line[..end]
 }
 
 fn without_blanks(text: &[u8]) -> &[u8]
     ensures has_the_same_words { words_in result.now ≡ words_in text.now }
     ensures begins_a_word { 0 < length result.now → blank (slice_index result.now 0) ≡ false }
 {
-    for (i, byte) in text.iter().enumerate() {
-        if !is_blank(*byte) {
-            return &text[i..];
-        }
-    }
-    &text[text.len()..]
+    let start = text
+        .iter()
+        .position(|byte| !is_blank(*byte))
+        .unwrap_or(text.len());
+    &text[start..]
 }
 
 fn word_length(text: &[u8]) -> usize
     ensures ends_at_the_blank { result ≡ word_end text.now }
 {
-    for (i, byte) in text.iter().enumerate() {
-        if is_blank(*byte) {
-            return i;
-        }
-    }
-    text.len()
+    text.iter()
+        .position(|byte| is_blank(*byte))
+        .unwrap_or(text.len())
 }

@@ -1,18 +1,12 @@
-use Rattle.std.proofs.Common.{sym, arith}
-use Rattle.script.proofs.Splits.{word_end_at_blank, word_end_before_blank, word_end_past}
+use Rattle.std.proofs.Common.{sym, ◌∙◌, rules, tests}
+use Rattle.std.proofs.lemmas.Iterator.{YieldsList-from_slice}
+use Rattle.std.proofs.lemmas.Iterator.Search.{position_from_yields_List}
+use Rattle.script.specs.Splitting.{blank}
+use Rattle.script.proofs.Splits.{at_first, word_end_first}
 use Rattle.script.proofs.words.word_length.Goals as goal
-
-pub returns-then-is_blank : goal.returns-then-is_blank
-returns-then-is_blank c =
-    let here = word_end_at_blank c.args.text.now c.loop-i.i c.loop-i-test.true (sym c.if-is_blank.ensures.tells_blanks) in
-    record { ends_at_the_blank = omega (arith, c.loop-i.invariant) }
-
-pub loop-i-preserved : goal.loop-i-preserved
-loop-i-preserved c =
-    let here = word_end_before_blank c.args.text.now c.loop-i.i c.loop-i-test.true (sym c.if-is_blank.ensures.tells_blanks) in
-    omega (arith, c.loop-i.invariant)
 
 pub returns : goal.returns
 returns c =
-    let here = word_end_past c.args.text.now c.loop-i.i c.loop-i-test.false in
-    record { ends_at_the_blank = omega (arith, c.loop-i.invariant) }
+    let text = c.args.text.now in
+    let first = position_from_yields_List blank _ _ c.position.result c.position.ensures.ran (YieldsList-from_slice text (cc)) (λ x b q k. search (rules, tests)) in
+    record { ends_at_the_blank = c.unwrap_or.ensures ∙ at_first blank text c.position.result first ∙ sym (word_end_first text) }

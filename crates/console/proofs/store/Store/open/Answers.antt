@@ -9,10 +9,10 @@ use Rattle.std.proofs.lemmas.List.{take_at}
 pub returns-in-Ok : goal.returns-in-Ok
 returns-in-Ok c =
     let nodes = c.in_ok-nodes.nodes in
-    let many = c.in_ok-nodes.ensures.has_so_many in
+    let many = c.in_ok-nodes.ensures.len in
     let start = c.in-Ok.ensures.opens_an_empty_pool in
-    let few : c.args.count ≤ 4096 = omega (arith, start.0, c.as_mut_slice.ensures.len, many, c.min.ensures) in
-    let all : length c.as_mut_slice.result.now ≡ c.args.count = omega (arith, start.0, c.as_mut_slice.ensures.len, many, c.min.ensures) in
+    let few : c.args.count ≤ 4096 = omega (arith, start.0, c.as_mut_slice.ensures.len, many, c.min-count.ensures) in
+    let all : length c.as_mut_slice.result.now ≡ c.args.count = omega (arith, start.0, c.as_mut_slice.ensures.len, many, c.min-count.ensures) in
     let length_kept : length c.open.new.nodes ≡ nodes.len = omega (arith, c.open.auto.nodes, c.as_mut_slice.ensures.len) in
     let whole = take_at c.open.new.nodes _ nodes.len length_kept in
     record {

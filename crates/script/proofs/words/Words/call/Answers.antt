@@ -1,13 +1,14 @@
-use Rattle.std.proofs.Common.{codes, ◌∙◌, arith}
-use Rattle.script.proofs.Names.{other_name, no_text_no_name}
+use Rattle.std.proofs.Common.{codes, arith}
+use Rattle.script.proofs.Names.{no_text, no_text_no_name}
 use Rattle.script.proofs.words.Words.call.Goals as goal
 
-pub returns-in_default : goal.returns-in_default
-returns-in_default c =
+pub returns-in_err-ok : goal.returns-in_err-ok
+returns-in_err-ok c =
     let name = c.args.name.now in
-    let broken = c.in_default.ensures.cases.0 in
+    let broken = no_text c.from_utf8.result _ _ _ c.in_err-ok.ensures.value c.from_utf8.ensures.cases in
     record {
       reads_the_call = rw (
+        c.from_residual.ensures,
         no_text_no_name name (codes "open") broken (omega arith),
         no_text_no_name name (codes "put") broken (omega arith),
         no_text_no_name name (codes "look") broken (omega arith),
@@ -17,24 +18,5 @@ returns-in_default c =
         no_text_no_name name (codes "clear") broken (omega arith),
         no_text_no_name name (codes "count") broken (omega arith),
         no_text_no_name name (codes "free") broken (omega arith),
-      );
-    }
-
-pub returns-in_default-name : goal.returns-in_default-name
-returns-in_default-name c =
-    let name = c.args.name.now in
-    let same = c.in-Ok.ensures.cases.0 in
-    let other = c.in_default-name in
-    record {
-      reads_the_call = rw (
-        other_name name (codes "open") (λ e. other.not-open (same ∙ e)),
-        other_name name (codes "put") (λ e. other.not-put (same ∙ e)),
-        other_name name (codes "look") (λ e. other.not-look (same ∙ e)),
-        other_name name (codes "remove") (λ e. other.not-remove (same ∙ e)),
-        other_name name (codes "next") (λ e. other.not-next (same ∙ e)),
-        other_name name (codes "list") (λ e. other.not-list (same ∙ e)),
-        other_name name (codes "clear") (λ e. other.not-clear (same ∙ e)),
-        other_name name (codes "count") (λ e. other.not-count (same ∙ e)),
-        other_name name (codes "free") (λ e. other.not-free (same ∙ e)),
       );
     }
