@@ -1,6 +1,6 @@
 ghost use Rattle.std.specs.Prelude.{◌≤◌};
 
-use crate::work::{build_and_empty_each, build_each, look_all, put_all, walk_all};
+use crate::work::Map;
 use keys::Word;
 use pool::{Book, Node, open};
 use records::Lamp;
@@ -15,71 +15,101 @@ fn nodes_for(keys: usize) -> usize
     if keys < 2048 { 2 * keys } else { MOST_NODES }
 }
 
-/// Builds a map of each `size` keys of the list from nothing, `rounds` times. A list of many maps keeps the processor
-/// from learning the way of each.
-#[unsafe(no_mangle)]
-pub extern "C" fn bench_put(numbers: &[u32], size: usize, rounds: u32) -> u32 {
-    let mut pool: [Node<Word, Lamp>; 4095] = [Node::Free { next: 0 }; 4095];
-    let nodes = &mut pool[0..nodes_for(size)];
-    let mut sum: u32 = 0;
+// Builds the map once, and then does a round of work on it `rounds` times; each takes the checksum so far.
+fn on_one_map<F: Fn(&mut Map<'_>, u32) -> u32>(numbers: &[u32], rounds: u32, work: F) -> u32
+    requires always { F.IsAlwaysCallable work }
+{
+    let mut pool = [Node::Free { next: 0 }; MOST_NODES];
+    let nodes = &mut pool[..nodes_for(numbers.len())];
+    let Ok(book) = open(nodes) else { return 0 };
+    let mut map = Map::new(nodes, book);
+    let mut sum = map.put_all(numbers);
     for _ in 0..rounds {
-        sum = build_each(nodes, numbers, size, sum);
+        sum = work(&mut map, sum);
     }
     sum
+}
+
+// Builds a map of each `size` keys of the list from nothing and does some work on it, `rounds` times. A list of many maps
+// keeps the processor from learning the way of each.
+fn on_each_map<F: Fn(&mut Map<'_>, &[u32], u32) -> u32>(
+    numbers: &[u32],
+    size: usize,
+    rounds: u32,
+    work: F,
+) -> u32
+    requires always { F.IsAlwaysCallable work }
+{
+    // As above; a helper that lends the nodes to a closure was tried, and no closure that calls a closure in it was proved.
+    let mut pool = [Node::Free { next: 0 }; MOST_NODES];
+    let nodes = &mut pool[..nodes_for(size)];
+    let mut sum: u32 = 0;
+    for _ in 0..rounds {
+        sum = round(nodes, numbers, size, sum, &work);
+    }
+    sum
+}
+
+// One round over the list.
+fn round<F: Fn(&mut Map<'_>, &[u32], u32) -> u32>(
+    nodes: &mut [Node<Word, Lamp>],
+    numbers: &[u32],
+    size: usize,
+    before: u32,
+    work: &F,
+) -> u32
+    requires always { F.IsAlwaysCallable work.now }
+{
+    if size == 0 {
+        return before;
+    }
+    let mut sum = before;
+    for own in numbers.chunks(size) {
+        let Ok(book) = open(nodes) else { return sum };
+        let mut map = Map::new(nodes, book);
+        sum = sum.wrapping_add(map.put_all(own));
+        sum = work(&mut map, own, sum);
+    }
+    sum
+}
+
+/// Builds a map of each `size` keys of the list from nothing, `rounds` times.
+#[unsafe(no_mangle)]
+pub extern "C" fn bench_put(numbers: &[u32], size: usize, rounds: u32) -> u32 {
+    on_each_map(numbers, size, rounds, |_map, _own, sum| sum)
 }
 
 /// Builds the map once, and then tells a record for every key that is told, `rounds` times.
 #[unsafe(no_mangle)]
 pub extern "C" fn bench_join(numbers: &[u32], told: &[u32], rounds: u32) -> u32 {
-    let mut pool: [Node<Word, Lamp>; 4095] = [Node::Free { next: 0 }; 4095];
-    let nodes = &mut pool[0..nodes_for(numbers.len())];
-    let Ok(opened) = open(nodes) else { return 0 };
-    let mut book = opened;
-    let mut sum = put_all(nodes, &mut book, numbers);
-    for _ in 0..rounds {
-        sum = sum.wrapping_add(put_all(nodes, &mut book, told));
-    }
-    sum
+    on_one_map(
+        numbers,
+        rounds,
+        |map, sum| sum.wrapping_add(map.put_all(told)),
+    )
 }
 
 /// Builds the map once, and then looks for every key that is sought, `rounds` times.
 #[unsafe(no_mangle)]
 pub extern "C" fn bench_look(numbers: &[u32], sought: &[u32], rounds: u32) -> u32 {
-    let mut pool: [Node<Word, Lamp>; 4095] = [Node::Free { next: 0 }; 4095];
-    let nodes = &mut pool[0..nodes_for(numbers.len())];
-    let Ok(opened) = open(nodes) else { return 0 };
-    let mut book = opened;
-    let mut sum = put_all(nodes, &mut book, numbers);
-    for _ in 0..rounds {
-        sum = look_all(nodes, &book, sought, sum);
-    }
-    sum
+    on_one_map(numbers, rounds, |map, sum| map.look_all(sought, sum))
 }
 
 /// Builds the map once, and then walks over it from the first key past the last, `rounds` times.
 #[unsafe(no_mangle)]
 pub extern "C" fn bench_next(numbers: &[u32], rounds: u32) -> u32 {
-    let mut pool: [Node<Word, Lamp>; 4095] = [Node::Free { next: 0 }; 4095];
-    let nodes = &mut pool[0..nodes_for(numbers.len())];
-    let Ok(opened) = open(nodes) else { return 0 };
-    let mut book = opened;
-    let mut sum = put_all(nodes, &mut book, numbers);
-    for _ in 0..rounds {
-        sum = walk_all(nodes, &book, sum);
-    }
-    sum
+    on_one_map(numbers, rounds, |map, sum| map.walk_all(sum))
 }
 
 /// Builds a map of each `size` keys of the list from nothing and takes them out again, `rounds` times.
 #[unsafe(no_mangle)]
 pub extern "C" fn bench_put_and_remove(numbers: &[u32], size: usize, rounds: u32) -> u32 {
-    let mut pool: [Node<Word, Lamp>; 4095] = [Node::Free { next: 0 }; 4095];
-    let nodes = &mut pool[0..nodes_for(size)];
-    let mut sum: u32 = 0;
-    for _ in 0..rounds {
-        sum = build_and_empty_each(nodes, numbers, size, sum);
-    }
-    sum
+    on_each_map(
+        numbers,
+        size,
+        rounds,
+        |map, own, sum| map.remove_all(own, sum),
+    )
 }
 
 /// How many bytes a node of such a map takes.

@@ -33,11 +33,3 @@ pub fn add_lamp(sum: u32, lamp: Lamp) -> u32 {
         .wrapping_add(setting.source as u32)
         .wrapping_add(setting.word as u32)
 }
-
-/// The checksum after an answer that may have a record.
-pub fn add_found(sum: u32, found: Option<Lamp>) -> u32 {
-    match found {
-        Some(lamp) => add_lamp(sum, lamp),
-        None => sum,
-    }
-}

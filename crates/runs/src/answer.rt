@@ -1,7 +1,7 @@
 use causes::Cause;
 
 /// What a call that was carried out answers.
-#[derive(Clone, Copy)]
+#[derive(Clone, Copy, PartialEq, Eq, Debug)]
 pub enum Answer<K, V> {
     /// There is nothing to tell.
     Done,

@@ -1,5 +1,5 @@
 /// A call on the maps of a pool, as data.
-#[derive(Clone, Copy)]
+#[derive(Clone, Copy, PartialEq, Eq, Debug)]
 pub enum Call<K, V> {
     Put { shelf: u8, key: K, told: V },
     Look { shelf: u8, key: K },
