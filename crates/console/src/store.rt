@@ -3,12 +3,10 @@ ghost use Rattle.std.specs.Prelude.{IfOk};
 ghost use Rattle.console.specs.Keeping.{Opened, Plays};
 
 use keys::Word;
-use pool::{Book, Node, OpenRefusal, open};
+use pool::{Book, MOST_NODES, Node, OpenRefusal, open};
 use records::Lamp;
 use runs::{Call, Reply, play};
 use std::alloc::{AllocError, Global};
-
-const MOST_NODES: u32 = 4096;
 
 #[derive(Drop)]
 pub(crate) struct Store {
@@ -23,7 +21,7 @@ impl Store {
         ensures opens_an_empty_pool { IfOk result (λ opened. Opened count opened) }
     {
         // One node too many is refused as any number above it is, and takes little memory.
-        let count = count.min(MOST_NODES + 1) as usize;
+        let count = count.min(u32::from(MOST_NODES) + 1) as usize;
         let mut nodes = vec![in heap; Node::Free { next: 0 }; count]?;
         match open(nodes.as_mut_slice()) {
             Ok(book) => Ok(Ok(Store { nodes, book })),

@@ -23,7 +23,7 @@ impl Harm {
             }
             Harm::Row { shelf, row } => {
                 // Not by `get_mut`: tried, and after it the book is not known to have eight rows.
-                if shelf < SHELVES {
+                if (shelf as usize) < SHELVES {
                     book.shelves[shelf as usize] = row;
                 }
             }

@@ -9,7 +9,7 @@ ghost use Rattle.pool.specs.declared.node.Node.TheVariants.{Free};
 ghost use Rattle.pool.specs.declared.book.Book.{Book};
 
 use crate::account::{Account, MOST_NODES};
-use crate::book::Book;
+use crate::book::{Book, SHELVES};
 use crate::node::Node;
 use crate::refusal::OpenRefusal;
 use crate::shelf::Shelf;
@@ -40,7 +40,7 @@ pub fn open<K: KeyKind, V: Copy>(nodes: &mut [Node<K, V>]) -> Result<Book, OpenR
             head: 0,
             free: capacity,
         },
-        shelves: [Shelf::EMPTY; 8],
+        shelves: [Shelf::EMPTY; SHELVES],
     })
 }
 

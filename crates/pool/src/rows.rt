@@ -49,7 +49,7 @@ fn keys_after(keys: u16, free: u16, free_now: u16) -> u16
 
 impl Book {
     /// A book from its account and its eight rows.
-    pub fn from_parts(account: Account, shelves: [Shelf; 8]) -> Book
+    pub fn from_parts(account: Account, shelves: [Shelf; SHELVES]) -> Book
         ensures has_these_parts { (result.account ≡ account) × (result.shelves ≡ shelves) }
     {
         Book { account, shelves }
@@ -62,7 +62,7 @@ impl Book {
         ensures other_rows_unchanged { OtherRowsSame self.old self.new (shelf ∷ []) }
         ensures no_shelf_changes_nothing { 8 ≤ shelf → self.new ≡ self.old }
     {
-        if shelf >= SHELVES {
+        if shelf as usize >= SHELVES {
             return;
         }
         let before = self.shelves[shelf as usize];
@@ -79,7 +79,7 @@ impl Book {
         ensures other_rows_unchanged { OtherRowsSame self.old self.new (into ∷ (from ∷ [])) }
         ensures no_shelf_changes_nothing { (8 ≤ into → self.new ≡ self.old) × (8 ≤ from → self.new ≡ self.old) }
     {
-        if into >= SHELVES || from >= SHELVES {
+        if into as usize >= SHELVES || from as usize >= SHELVES {
             return;
         }
         let before = self.shelves[into as usize];

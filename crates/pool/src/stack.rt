@@ -13,7 +13,7 @@ const MOST: usize = 64;
 // An array with a height beside it, since the library has no heap: the memory of a stack is fixed.
 #[derive(Drop)]
 pub struct Stack<T> {
-    items: [T; 64],
+    items: [T; MOST],
     height: usize,
 }
 
