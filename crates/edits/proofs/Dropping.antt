@@ -16,13 +16,13 @@ use Rattle.pool.specs.Slice.{At, Stands, Chain}
 use Rattle.pool.specs.Nodes.{Released}
 use Rattle.pool.specs.Walks.{Rooted, Beside, Left}
 use Rattle.pool.proofs.Reading.{one_node}
-use Rattle.edits.specs.declared.landing.Parent.{Parent}
-use Rattle.edits.specs.declared.landing.Landing.{Landing}
+use Rattle.walks.specs.declared.descent.Parent.{Parent}
+use Rattle.walks.specs.declared.descent.Landing.{Landing}
 use Rattle.edits.specs.Owned.{owned}
-use Rattle.edits.specs.WalkEnds.{landing, LandsIfAny}
+use Rattle.walks.specs.Landings.{landing, LandsIfAny}
 use Rattle.edits.specs.Writes.{ClosedUp}
 use Rattle.edits.specs.Removed.{without_key}
-use Rattle.edits.proofs.Standing.{root_within}
+use Rattle.pool.proofs.Standing.{root_within}
 use Rattle.edits.proofs.Writing.{some_inj, apart, not_one, at_same, at_set_same, at_set_other, chain_kept}
 use Rattle.edits.proofs.Shrinking.{Ends, Lost, lost, stands_lost}
 
@@ -50,28 +50,28 @@ module _ {K V : Type 0} (κ : KeyModel K) (x : K) where
   }
 
   -- below a branch a landing has a branch above it
-  has_parent : (t : Tree K V) (q : Parent) → (landing κ x (Some q) t).parent ≡ None → ⊥
+  has_parent : (t : Tree K V) (q : Parent) → (landing (κ.bit x) (Some q) t).parent ≡ None → ⊥
   has_parent (leaf i k v) q e = let z : ◌≡◌ {A = ℕ} 0 1 = cc in omega arith
   has_parent (branch i p k l r) q e =
-      (elim (κ.bit x p) as (λ b. (cond b (landing κ x (Some (record { at = i; sibling = root l })) r) (landing κ x (Some (record { at = i; sibling = root r })) l)).parent ≡ None → ⊥) [
+      (elim (κ.bit x p) as (λ b. (cond b (landing (κ.bit x) (Some (record { at = i; sibling = root l })) r) (landing (κ.bit x) (Some (record { at = i; sibling = root r })) l)).parent ≡ None → ⊥) [
         | true ↦ has_parent r _
         | false ↦ has_parent l _
       ]) e
 
   -- a leaf with no branch above it is the whole tree
-  lone : (t : Tree K V) (d : Landing K V) → d ≡ landing κ x None t → d.parent ≡ None → t ≡ leaf d.at d.own d.held
+  lone : (t : Tree K V) (d : Landing K V) → d ≡ landing (κ.bit x) None t → d.parent ≡ None → t ≡ leaf d.at d.own d.held
   lone (leaf i k v) d e none = ap (λ (q : Landing K V). leaf q.at q.own q.held) (sym e)
   lone (branch i p k l r) d e none =
-      absurd ((elim (κ.bit x p) as (λ b. (cond b (landing κ x (Some (record { at = i; sibling = root l })) r) (landing κ x (Some (record { at = i; sibling = root r })) l)).parent ≡ None → ⊥) [
+      absurd ((elim (κ.bit x p) as (λ b. (cond b (landing (κ.bit x) (Some (record { at = i; sibling = root l })) r) (landing (κ.bit x) (Some (record { at = i; sibling = root r })) l)).parent ≡ None → ⊥) [
         | true ↦ has_parent r _
         | false ↦ has_parent l _
       ]) (ap (λ (q : Landing K V). q.parent) (sym e) ∙ none))
 
   -- the leaf and the branch above it are in the slice, and below a branch there are three nodes
-  landing_within : (ns : List (Node K V)) (t : Tree K V) (above : Option Parent) → Stands ns t → (landing κ x above t).at < length ns
+  landing_within : (ns : List (Node K V)) (t : Tree K V) (above : Option Parent) → Stands ns t → (landing (κ.bit x) above t).at < length ns
   landing_within ns (leaf i k v) above st = st.0
   landing_within ns (branch i p k l r) above st =
-      elim (κ.bit x p) as (λ b. (cond b (landing κ x (Some (record { at = i; sibling = root l })) r) (landing κ x (Some (record { at = i; sibling = root r })) l)).at < length ns) [
+      elim (κ.bit x p) as (λ b. (cond b (landing (κ.bit x) (Some (record { at = i; sibling = root l })) r) (landing (κ.bit x) (Some (record { at = i; sibling = root r })) l)).at < length ns) [
         | true ↦ landing_within ns r _ st.2
         | false ↦ landing_within ns l _ st.1
       ]
@@ -82,7 +82,7 @@ module _ {K V : Type 0} (κ : KeyModel K) (x : K) where
     pub sibling_in : q.sibling < length ns
     pub three : 3 ≤ size t
 
-  parent_within : (ns : List (Node K V)) (q : Parent) (t : Tree K V) (above : Option Parent) → Stands ns t → (landing κ x above t).parent ≡ Some q → (above ≡ Some q) ⊎ Above ns q t
+  parent_within : (ns : List (Node K V)) (q : Parent) (t : Tree K V) (above : Option Parent) → Stands ns t → (landing (κ.bit x) above t).parent ≡ Some q → (above ≡ Some q) ⊎ Above ns q t
   parent_within ns q (leaf i k v) above st e = inl e
   parent_within ns q (branch i p k l r) above st e =
       inr (by_bit (κ.bit x p) (parent_within ns q l _ st.1) (parent_within ns q r _ st.2) e)
@@ -103,9 +103,9 @@ module _ {K V : Type 0} (κ : KeyModel K) (x : K) where
       deeper : (c : Tree K V) → size c ≤ size l + size r → Above ns q c → Above ns q (branch i p k l r)
       deeper c less above_c = record { branch_in = above_c.branch_in; sibling_in = above_c.sibling_in; three = let three = above_c.three in omega arith }
 
-      by_bit : (b : Bool) → ((landing κ x (Some left) l).parent ≡ Some q → (◌≡◌ {A = Option Parent} (Some left) (Some q)) ⊎ Above ns q l)
-          → ((landing κ x (Some right) r).parent ≡ Some q → (◌≡◌ {A = Option Parent} (Some right) (Some q)) ⊎ Above ns q r)
-          → (cond b (landing κ x (Some right) r) (landing κ x (Some left) l)).parent ≡ Some q → Above ns q (branch i p k l r)
+      by_bit : (b : Bool) → ((landing (κ.bit x) (Some left) l).parent ≡ Some q → (◌≡◌ {A = Option Parent} (Some left) (Some q)) ⊎ Above ns q l)
+          → ((landing (κ.bit x) (Some right) r).parent ≡ Some q → (◌≡◌ {A = Option Parent} (Some right) (Some q)) ⊎ Above ns q r)
+          → (cond b (landing (κ.bit x) (Some right) r) (landing (κ.bit x) (Some left) l)).parent ≡ Some q → Above ns q (branch i p k l r)
       by_bit true in_left in_right h = ⊎_elim (λ same. here l r st.1 same (omega (arith, size_pos l, size_pos r))) (deeper r (omega arith)) (in_right h)
       by_bit false in_left in_right h = ⊎_elim (λ same. here r l st.2 same (omega (arith, size_pos l, size_pos r))) (deeper l (omega arith)) (in_left h)
 
@@ -129,15 +129,6 @@ module _ {K V : Type 0} (κ : KeyModel K) (x : K) where
       (parent_within ns q t None rooted.stands (ap (λ (e : Landing K V). e.parent) (sym lands.leads) ∙ parent)) in
       let three = above.three in
       ((room_for_one ns account top d (Some t) chain rooted beside lands).0, above.branch_in, above.sibling_in, omega arith)
-
-  -- and x finds what the leaf holds, or nothing
-  pub lands_hit : (d : Landing K V) (map : Option (Tree K V)) → LandsIfAny κ x d map → d.own ≡ x → lookup κ (entries_if_any map) x ≡ Some d.held
-  lands_hit d None lands = absurd lands
-  lands_hit d (Some t) lands = lands.hit
-
-  pub lands_miss : (d : Landing K V) (map : Option (Tree K V)) → LandsIfAny κ x d map → (d.own ≡ x → ⊥) → lookup κ (entries_if_any map) x ≡ None
-  lands_miss d None lands = absurd lands
-  lands_miss d (Some t) lands = lands.miss
 
 module _ {K V : Type 0} (κ : KeyModel K) (x : K) (ns ns' : List (Node K V)) (before after : Account) where
   -- a leaf given back that was the whole map leaves an empty one
@@ -181,7 +172,7 @@ module _ {K V : Type 0} (κ : KeyModel K) (x : K) (ns ns' : List (Node K V)) (be
       (subst (λ (u : Tree K V). (j : ℕ) → uses j u + times j chain ≤ 1) (sym whole) beside.once) released)
 
   -- a branch closed up over the leaf of x leaves the map without x
-  left_closed : (t : Tree K V) (end : ℕ) (q : Parent) (content : Node K V) (chain : List ℕ) → Stands ns t → Ordered κ 0 t → Ends κ x end q.at q.sibling (landing κ x None t)
+  left_closed : (t : Tree K V) (end : ℕ) (q : Parent) (content : Node K V) (chain : List ℕ) → Stands ns t → Ordered κ 0 t → Ends κ x end q.at q.sibling (landing (κ.bit x) None t)
       → Lost κ x end q.at q.sibling t
       → Chain ns before.head chain → length chain ≡ before.free → ((j : ℕ) → uses j t + times j chain ≤ 1)
       → q.at < length ns → end < length ns → At ns q.sibling content → ClosedUp ns ns' before q content end after
@@ -260,7 +251,7 @@ module _ {K V : Type 0} (κ : KeyModel K) (x : K) (ns ns' : List (Node K V)) (be
   removed_closed top d q content None chain rooted beside lands own parent was closed = absurd lands
   removed_closed top d q content (Some t) chain rooted beside lands own parent was closed =
       let leads = lands.leads in
-      let ends : Ends κ x d.at q.at q.sibling (landing κ x None t) = record {
+      let ends : Ends κ x d.at q.at q.sibling (landing (κ.bit x) None t) = record {
         at_end = ap (λ (e : Landing K V). e.at) (sym leads);
         of_key = ap (λ (e : Landing K V). number κ e.own) (sym leads) ∙ ap (number κ) own;
         below = ap (λ (e : Landing K V). e.parent) (sym leads) ∙ parent;

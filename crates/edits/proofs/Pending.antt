@@ -16,7 +16,7 @@ use Rattle.pool.specs.Walks.{Rooted, Beside, Left}
 use Rattle.pool.proofs.Reading.{one_node, written_there, kept_elsewhere}
 use Rattle.pool.proofs.Standing.{root_within, none_at_free}
 use Rattle.edits.specs.Clears.{sides, Stuck}
-use Rattle.edits.proofs.Releasing.{stands_kept, chain_kept}
+use Rattle.edits.proofs.Writing.{stands_kept, chain_kept}
 
 module _ {K V : Type 0} where
   abbrev pub uses_all : ℕ → List (Tree K V) → ℕ

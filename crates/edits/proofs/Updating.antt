@@ -9,9 +9,11 @@ use Rattle.pool.specs.declared.account.Account.{Account}
 use Rattle.pool.specs.Slice.{At, Chain}
 use Rattle.pool.specs.Nodes.{Took}
 use Rattle.pool.specs.Walks.{Rooted, Beside, Left}
+use Rattle.walks.specs.declared.sides.Sides.{Sides}
+use Rattle.edits.specs.declared.seat.Gap.{Gap}
 use Rattle.edits.specs.declared.seat.Seat.TheVariants.{Taken, Open}
 use Rattle.edits.specs.Owned.{owned}
-use Rattle.edits.specs.WalkEnds.{SeatedIfAny}
+use Rattle.edits.specs.Seats.{SeatedIfAny}
 use Rattle.edits.specs.Writes.{TookTwo, Forked}
 use Rattle.edits.specs.Inserted.{with_update}
 use Rattle.edits.proofs.Writing.{some_inj, apart, not_one, at_set_same, at_set_other, chain_kept, took_first}
@@ -67,15 +69,15 @@ module _ {K V : Type 0} (κ : KeyModel K) (join : V → V → V) (x : K) (v : V)
       subst₂ (λ (a b : ℕ). Left κ ns ns' (with_update κ join x v (Some t)) (owned (Some t) (a ∷ (b ∷ rest))) before after (Some (root t))) first.0 second.0
       (left rest second.1 (omega arith) once_taken)
 
-  pub inserted_fork : (top i place : ℕ) (old : Node K V) (moved new : ℕ) (map : Option (Tree K V)) (chain : List ℕ)
-      → Rooted κ ns (Some top) map → Beside ns before map chain → SeatedIfAny κ ns x (Open i place) map → At ns i old → TookTwo ns before moved new after
-      → Forked κ x v ns ns' i place old moved new
+  pub inserted_fork : (top : ℕ) (gap : Gap) (old : Node K V) (sides : Sides) (map : Option (Tree K V)) (chain : List ℕ)
+      → Rooted κ ns (Some top) map → Beside ns before map chain → SeatedIfAny κ ns x (Open gap) map → At ns gap.at old → TookTwo ns before sides.far sides.near after
+      → Forked κ x v ns ns' gap old sides
       → Left κ ns ns' (with_update κ join x v map) (owned map chain) before after (Some top)
-  inserted_fork top i place old moved new None chain rooted beside seated was took forked = absurd seated
-  inserted_fork top i place old moved new (Some t) chain rooted beside seated was took forked =
+  inserted_fork top gap old sides None chain rooted beside seated was took forked = absurd seated
+  inserted_fork top gap old sides (Some t) chain rooted beside seated was took forked =
       subst (λ (n : ℕ). Left κ ns ns' (with_update κ join x v (Some t)) (owned (Some t) chain) before after (Some n)) (sym (some_inj top (root t) rooted.rooted))
-      (two_taken t moved new chain beside.linked beside.counted beside.once took
-      (λ rest linked counted once. left_forked κ join x v ns ns' i place t rooted.stands rooted.ordered seated.1.2 moved new rest old before after
+      (two_taken t sides.far sides.near chain beside.linked beside.counted beside.once took
+      (λ rest linked counted once. left_forked κ join x v ns ns' gap.at gap.place t rooted.stands rooted.ordered seated.1.2 sides.far sides.near rest old before after
       seated.1.1 was took.one.free.0 took.two.free.0 linked counted (took.two.capacity ∙ took.one.capacity) once
       (forked was.0 took.one.free.0 took.two.free.0)))
 

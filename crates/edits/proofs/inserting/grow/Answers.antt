@@ -1,5 +1,5 @@
 use Rattle.std.proofs.Common.{◌≡◌, ℕ, subst, arith}
-use Rattle.edits.specs.WalkEnds.{SeatedIfAny}
+use Rattle.edits.specs.Seats.{SeatedIfAny}
 use Rattle.edits.specs.declared.seat.Seat.{Seat}
 use Rattle.edits.proofs.Updating.{inserted_join}
 use Rattle.edits.proofs.inserting.grow.Goals as goal
