@@ -1,5 +1,6 @@
 -- The key's leaf taken from a tree that stands in a slice, and the branch above it closed up.
 use Rattle.std.proofs.Common.{◌≡◌, ℕ, ◌+◌, ◌≤◌, Bool, true, false, cond, ◌⊎◌, List, [], ◌∷◌, Some, None, Option, sym, refl, ap, ◌∙◌, subst, inl, inr, ⊎_elim, arith}
+use Rattle.std.proofs.lemmas.Option.{same_Some}
 use Rattle.keys.specs.Model.{KeyModel, number}
 use Rattle.trees.specs.Tree.{Tree, leaf, branch, one, root, uses, move}
 use Rattle.trees.specs.Remove.{removed, freed}
@@ -8,14 +9,15 @@ use Rattle.trees.proofs.Remove.{removed_keeps, removed_loses, freed_keeps, freed
 use Rattle.pool.specs.declared.node.Node.{Node}
 use Rattle.pool.specs.declared.node.Node.TheVariants.{Branch}
 use Rattle.pool.specs.Slice.{At, Stands}
+use Rattle.pool.proofs.After.{stands_kept}
 use Rattle.walks.specs.declared.descent.Parent.{Parent}
 use Rattle.walks.specs.declared.descent.Landing.{Landing}
 use Rattle.walks.specs.Landings.{landing}
-use Rattle.edits.proofs.Writing.{some_inj, not_one, at_same, stands_kept, stands_moved}
+use Rattle.edits.proofs.Writing.{not_one, at_same, stands_moved}
 
 parent_of : (a b c d : ℕ) → ◌≡◌ {A = Option Parent} (Some (record { at = a; sibling = b })) (Some (record { at = c; sibling = d })) → (a ≡ c) × (b ≡ d)
 parent_of a b c d e =
-    let same = some_inj _ _ e in
+    let same = same_Some _ _ e in
     (ap (λ (q : Parent). q.at) same, ap (λ (q : Parent). q.sibling) same)
 
 module _ {K V : Type 0} where
@@ -142,7 +144,7 @@ module _ {K V : Type 0} (κ : KeyModel K) (x : K) (end parent sibling : ℕ) whe
     pub stands_lost : (t : Tree K V) (above : Option Parent) → Ends (landing (κ.bit x) above t) → Stands ns t → ((j : ℕ) → uses j t ≤ 1)
         → (tree : Tree K V) → removed κ x t ≡ Some tree → Stands ns' tree
     stands_lost (leaf i k v) above ends st once tree rest =
-        let gone = removed_leaf κ x i k v ends.of_key in absurd (let z : ◌≡◌ {A = ℕ} 0 1 = cc in omega arith)
+        let gone = removed_leaf κ x i k v ends.of_key in absurd cc
     stands_lost (branch i p k l r) above ends st once tree rest =
         by_bit (κ.bit x p) refl (λ h. stands_lost l _ h st.1 (λ j. omega (arith, once j))) (λ h. stands_lost r _ h st.2 (λ j. omega (arith, once j))) ends
       where
