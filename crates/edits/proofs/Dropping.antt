@@ -1,5 +1,6 @@
 -- What the writes of a removal come to for the map.
 use Rattle.std.proofs.Common.{◌≡◌, ℕ, ◌+◌, ◌<◌, ◌≤◌, Bool, true, false, cond, ◌⊎◌, List, ◌∷◌, length, set, Some, None, Option, sym, refl, ap, ◌∙◌, subst, inl, inr, ⊎_elim, arith, length-set, eqb-true}
+use Rattle.std.proofs.lemmas.Option.{same_Some}
 use Rattle.keys.specs.Model.{KeyModel, number}
 use Rattle.trees.specs.Tree.{Tree, leaf, branch, one, times, root, entries_if_any, size, uses, uses_if_any}
 use Rattle.trees.specs.Order.{Ordered}
@@ -15,15 +16,15 @@ use Rattle.pool.specs.declared.account.Account.{Account}
 use Rattle.pool.specs.Slice.{At, Stands, Chain}
 use Rattle.pool.specs.Nodes.{Released}
 use Rattle.pool.specs.Walks.{Rooted, Beside, Left}
-use Rattle.pool.proofs.Reading.{one_node}
-use Rattle.edits.specs.declared.landing.Parent.{Parent}
-use Rattle.edits.specs.declared.landing.Landing.{Landing}
+use Rattle.pool.proofs.Reading.{one_node, written_there, kept_elsewhere}
+use Rattle.walks.specs.declared.descent.Parent.{Parent}
+use Rattle.walks.specs.declared.descent.Landing.{Landing}
 use Rattle.edits.specs.Owned.{owned}
-use Rattle.edits.specs.WalkEnds.{landing, LandsIfAny}
+use Rattle.walks.specs.Landings.{landing, LandsIfAny}
 use Rattle.edits.specs.Writes.{ClosedUp}
 use Rattle.edits.specs.Removed.{without_key}
-use Rattle.edits.proofs.Standing.{root_within}
-use Rattle.edits.proofs.Writing.{some_inj, apart, not_one, at_same, at_set_same, at_set_other, chain_kept}
+use Rattle.pool.proofs.Standing.{root_within}
+use Rattle.edits.proofs.Writing.{apart, not_one, at_same, chain_kept}
 use Rattle.edits.proofs.Shrinking.{Ends, Lost, lost, stands_lost}
 
 module _ {K V : Type 0} (κ : KeyModel K) (x : K) where
@@ -50,28 +51,28 @@ module _ {K V : Type 0} (κ : KeyModel K) (x : K) where
   }
 
   -- below a branch a landing has a branch above it
-  has_parent : (t : Tree K V) (q : Parent) → (landing κ x (Some q) t).parent ≡ None → ⊥
-  has_parent (leaf i k v) q e = let z : ◌≡◌ {A = ℕ} 0 1 = cc in omega arith
+  has_parent : (t : Tree K V) (q : Parent) → (landing (κ.bit x) (Some q) t).parent ≡ None → ⊥
+  has_parent (leaf i k v) q e = cc
   has_parent (branch i p k l r) q e =
-      (elim (κ.bit x p) as (λ b. (cond b (landing κ x (Some (record { at = i; sibling = root l })) r) (landing κ x (Some (record { at = i; sibling = root r })) l)).parent ≡ None → ⊥) [
+      (elim (κ.bit x p) as (λ b. (cond b (landing (κ.bit x) (Some (record { at = i; sibling = root l })) r) (landing (κ.bit x) (Some (record { at = i; sibling = root r })) l)).parent ≡ None → ⊥) [
         | true ↦ has_parent r _
         | false ↦ has_parent l _
       ]) e
 
   -- a leaf with no branch above it is the whole tree
-  lone : (t : Tree K V) (d : Landing K V) → d ≡ landing κ x None t → d.parent ≡ None → t ≡ leaf d.at d.own d.held
+  lone : (t : Tree K V) (d : Landing K V) → d ≡ landing (κ.bit x) None t → d.parent ≡ None → t ≡ leaf d.at d.own d.held
   lone (leaf i k v) d e none = ap (λ (q : Landing K V). leaf q.at q.own q.held) (sym e)
   lone (branch i p k l r) d e none =
-      absurd ((elim (κ.bit x p) as (λ b. (cond b (landing κ x (Some (record { at = i; sibling = root l })) r) (landing κ x (Some (record { at = i; sibling = root r })) l)).parent ≡ None → ⊥) [
+      absurd ((elim (κ.bit x p) as (λ b. (cond b (landing (κ.bit x) (Some (record { at = i; sibling = root l })) r) (landing (κ.bit x) (Some (record { at = i; sibling = root r })) l)).parent ≡ None → ⊥) [
         | true ↦ has_parent r _
         | false ↦ has_parent l _
       ]) (ap (λ (q : Landing K V). q.parent) (sym e) ∙ none))
 
   -- the leaf and the branch above it are in the slice, and below a branch there are three nodes
-  landing_within : (ns : List (Node K V)) (t : Tree K V) (above : Option Parent) → Stands ns t → (landing κ x above t).at < length ns
+  landing_within : (ns : List (Node K V)) (t : Tree K V) (above : Option Parent) → Stands ns t → (landing (κ.bit x) above t).at < length ns
   landing_within ns (leaf i k v) above st = st.0
   landing_within ns (branch i p k l r) above st =
-      elim (κ.bit x p) as (λ b. (cond b (landing κ x (Some (record { at = i; sibling = root l })) r) (landing κ x (Some (record { at = i; sibling = root r })) l)).at < length ns) [
+      elim (κ.bit x p) as (λ b. (cond b (landing (κ.bit x) (Some (record { at = i; sibling = root l })) r) (landing (κ.bit x) (Some (record { at = i; sibling = root r })) l)).at < length ns) [
         | true ↦ landing_within ns r _ st.2
         | false ↦ landing_within ns l _ st.1
       ]
@@ -82,7 +83,7 @@ module _ {K V : Type 0} (κ : KeyModel K) (x : K) where
     pub sibling_in : q.sibling < length ns
     pub three : 3 ≤ size t
 
-  parent_within : (ns : List (Node K V)) (q : Parent) (t : Tree K V) (above : Option Parent) → Stands ns t → (landing κ x above t).parent ≡ Some q → (above ≡ Some q) ⊎ Above ns q t
+  parent_within : (ns : List (Node K V)) (q : Parent) (t : Tree K V) (above : Option Parent) → Stands ns t → (landing (κ.bit x) above t).parent ≡ Some q → (above ≡ Some q) ⊎ Above ns q t
   parent_within ns q (leaf i k v) above st e = inl e
   parent_within ns q (branch i p k l r) above st e =
       inr (by_bit (κ.bit x p) (parent_within ns q l _ st.1) (parent_within ns q r _ st.2) e)
@@ -95,17 +96,17 @@ module _ {K V : Type 0} (κ : KeyModel K) (x : K) where
 
       here : (far near : Tree K V) → Stands ns far → ◌≡◌ {A = Option Parent} (Some (record { at = i; sibling = root far })) (Some q) → 3 ≤ 1 + size l + size r → Above ns q (branch i p k l r)
       here far near sf same three = record {
-        branch_in = subst (λ (z : Parent). z.at < length ns) (some_inj _ q same) st.0.0;
-        sibling_in = subst (λ (z : Parent). z.sibling < length ns) (some_inj _ q same) (root_within ns far sf);
+        branch_in = subst (λ (z : Parent). z.at < length ns) (same_Some _ q same) st.0.0;
+        sibling_in = subst (λ (z : Parent). z.sibling < length ns) (same_Some _ q same) (root_within ns far sf);
         three = three;
       }
 
       deeper : (c : Tree K V) → size c ≤ size l + size r → Above ns q c → Above ns q (branch i p k l r)
       deeper c less above_c = record { branch_in = above_c.branch_in; sibling_in = above_c.sibling_in; three = let three = above_c.three in omega arith }
 
-      by_bit : (b : Bool) → ((landing κ x (Some left) l).parent ≡ Some q → (◌≡◌ {A = Option Parent} (Some left) (Some q)) ⊎ Above ns q l)
-          → ((landing κ x (Some right) r).parent ≡ Some q → (◌≡◌ {A = Option Parent} (Some right) (Some q)) ⊎ Above ns q r)
-          → (cond b (landing κ x (Some right) r) (landing κ x (Some left) l)).parent ≡ Some q → Above ns q (branch i p k l r)
+      by_bit : (b : Bool) → ((landing (κ.bit x) (Some left) l).parent ≡ Some q → (◌≡◌ {A = Option Parent} (Some left) (Some q)) ⊎ Above ns q l)
+          → ((landing (κ.bit x) (Some right) r).parent ≡ Some q → (◌≡◌ {A = Option Parent} (Some right) (Some q)) ⊎ Above ns q r)
+          → (cond b (landing (κ.bit x) (Some right) r) (landing (κ.bit x) (Some left) l)).parent ≡ Some q → Above ns q (branch i p k l r)
       by_bit true in_left in_right h = ⊎_elim (λ same. here l r st.1 same (omega (arith, size_pos l, size_pos r))) (deeper r (omega arith)) (in_right h)
       by_bit false in_left in_right h = ⊎_elim (λ same. here r l st.2 same (omega (arith, size_pos l, size_pos r))) (deeper l (omega arith)) (in_left h)
 
@@ -125,19 +126,10 @@ module _ {K V : Type 0} (κ : KeyModel K) (x : K) where
   room_for_two ns account top d q (Some t) chain rooted beside lands parent =
       let few = beside.few in
       let counted = beside.counted in
-      let above : Above ns q t = ⊎_elim (λ none. absurd (let z : ◌≡◌ {A = ℕ} 0 1 = cc in omega arith)) (λ a. a)
+      let above : Above ns q t = ⊎_elim (λ none. absurd cc) (λ a. a)
       (parent_within ns q t None rooted.stands (ap (λ (e : Landing K V). e.parent) (sym lands.leads) ∙ parent)) in
       let three = above.three in
       ((room_for_one ns account top d (Some t) chain rooted beside lands).0, above.branch_in, above.sibling_in, omega arith)
-
-  -- and x finds what the leaf holds, or nothing
-  pub lands_hit : (d : Landing K V) (map : Option (Tree K V)) → LandsIfAny κ x d map → d.own ≡ x → lookup κ (entries_if_any map) x ≡ Some d.held
-  lands_hit d None lands = absurd lands
-  lands_hit d (Some t) lands = lands.hit
-
-  pub lands_miss : (d : Landing K V) (map : Option (Tree K V)) → LandsIfAny κ x d map → (d.own ≡ x → ⊥) → lookup κ (entries_if_any map) x ≡ None
-  lands_miss d None lands = absurd lands
-  lands_miss d (Some t) lands = lands.miss
 
 module _ {K V : Type 0} (κ : KeyModel K) (x : K) (ns ns' : List (Node K V)) (before after : Account) where
   -- a leaf given back that was the whole map leaves an empty one
@@ -150,7 +142,7 @@ module _ {K V : Type 0} (κ : KeyModel K) (x : K) (ns ns' : List (Node K V)) (be
       let more = released.more in
       let chained : ℕ → ℕ = λ j. times j chain in
       let keep : (j : ℕ) → (j ≡ i → ⊥) → (y : Node K V) → At ns j y → At ns' j y =
-      λ j other y h. subst (λ (n : List (Node K V)). At n j y) (sym released.written) (at_set_other ns i _ j y other h) in
+      λ j other y h. subst (λ (n : List (Node K V)). At n j y) (sym released.written) (kept_elsewhere ns i _ j y other h) in
       record {
         map = None;
         chain = i ∷ chain;
@@ -160,7 +152,7 @@ module _ {K V : Type 0} (κ : KeyModel K) (x : K) (ns ns' : List (Node K V)) (be
           released.first,
           (
             before.head,
-            subst (λ (n : List (Node K V)). At n i (Free before.head)) (sym released.written) (at_set_same ns i _ released.within),
+            subst (λ (n : List (Node K V)). At n i (Free before.head)) (sym released.written) (written_there ns i _ released.within),
             chain_kept ns ns' before.head chain (λ j h. keep j (apart chained i j (omega arith) h)) linked,
           ),
         );
@@ -181,7 +173,7 @@ module _ {K V : Type 0} (κ : KeyModel K) (x : K) (ns ns' : List (Node K V)) (be
       (subst (λ (u : Tree K V). (j : ℕ) → uses j u + times j chain ≤ 1) (sym whole) beside.once) released)
 
   -- a branch closed up over the leaf of x leaves the map without x
-  left_closed : (t : Tree K V) (end : ℕ) (q : Parent) (content : Node K V) (chain : List ℕ) → Stands ns t → Ordered κ 0 t → Ends κ x end q.at q.sibling (landing κ x None t)
+  left_closed : (t : Tree K V) (end : ℕ) (q : Parent) (content : Node K V) (chain : List ℕ) → Stands ns t → Ordered κ 0 t → Ends κ x end q.at q.sibling (landing (κ.bit x) None t)
       → Lost κ x end q.at q.sibling t
       → Chain ns before.head chain → length chain ≡ before.free → ((j : ℕ) → uses j t + times j chain ≤ 1)
       → q.at < length ns → end < length ns → At ns q.sibling content → ClosedUp ns ns' before q content end after
@@ -208,15 +200,15 @@ module _ {K V : Type 0} (κ : KeyModel K) (x : K) (ns ns' : List (Node K V)) (be
       let give : List (Node K V) = set lift sibling (Free before.head) in
       let keep : (j : ℕ) → (j ≡ parent → ⊥) → (j ≡ sibling → ⊥) → (j ≡ end → ⊥) → (y : Node K V) → At ns j y → At ns' j y =
       λ j jp js je y h. subst (λ (n : List (Node K V)). At n j y) (sym written)
-      (at_set_other give end _ j y je (at_set_other lift sibling _ j y js (at_set_other ns parent content j y jp h))) in
+      (kept_elsewhere give end _ j y je (kept_elsewhere lift sibling _ j y js (kept_elsewhere ns parent content j y jp h))) in
       let lifted : (y : Node K V) → At ns sibling y → At ns' parent y =
       λ y h. subst (λ (n : List (Node K V)). At n parent y) (sym written)
-      (at_set_other give end _ parent y pe (at_set_other lift sibling _ parent y ps
-      (at_same lift parent parent y content refl (one_node ns sibling sibling y content refl h was) (at_set_same ns parent content parent_in_lem)))) in
+      (kept_elsewhere give end _ parent y pe (kept_elsewhere lift sibling _ parent y ps
+      (at_same lift parent parent y content refl (one_node ns sibling sibling y content refl h was) (written_there ns parent content parent_in_lem)))) in
       let at_sibling : At ns' sibling (Free before.head) = subst (λ (n : List (Node K V)). At n sibling (Free before.head)) (sym written)
-      (at_set_other give end _ sibling _ se (at_set_same lift sibling _ (rw length-set was.0))) in
+      (kept_elsewhere give end _ sibling _ se (written_there lift sibling _ (rw length-set was.0))) in
       let at_end : At ns' end (Free sibling) = subst (λ (n : List (Node K V)). At n end (Free sibling)) (sym written)
-      (at_set_same give end _ (rw (length-set, length-set) end_in)) in
+      (written_there give end _ (rw (length-set, length-set) end_in)) in
       let chained : ℕ → ℕ = λ j. times j chain in
       record {
         map = Some less.tree;
@@ -260,13 +252,13 @@ module _ {K V : Type 0} (κ : KeyModel K) (x : K) (ns ns' : List (Node K V)) (be
   removed_closed top d q content None chain rooted beside lands own parent was closed = absurd lands
   removed_closed top d q content (Some t) chain rooted beside lands own parent was closed =
       let leads = lands.leads in
-      let ends : Ends κ x d.at q.at q.sibling (landing κ x None t) = record {
+      let ends : Ends κ x d.at q.at q.sibling (landing (κ.bit x) None t) = record {
         at_end = ap (λ (e : Landing K V). e.at) (sym leads);
         of_key = ap (λ (e : Landing K V). number κ e.own) (sym leads) ∙ ap (number κ) own;
         below = ap (λ (e : Landing K V). e.parent) (sym leads) ∙ parent;
       } in
       let room = room_for_two κ x ns before top d q (Some t) chain rooted beside lands parent in
       let less : Lost κ x d.at q.at q.sibling t =
-      ⊎_elim (λ gone. let none = gone.under in absurd (let z : ◌≡◌ {A = ℕ} 0 1 = cc in omega arith)) (λ less. less) (lost κ x d.at q.at q.sibling t None ends) in
-      subst (λ (n : ℕ). Left κ ns ns' (without_key κ x (Some t)) (owned (Some t) chain) before after (Some n)) (sym (some_inj top (root t) rooted.rooted))
+      ⊎_elim (λ gone. let none = gone.under in absurd cc) (λ less. less) (lost κ x d.at q.at q.sibling t None ends) in
+      subst (λ (n : ℕ). Left κ ns ns' (without_key κ x (Some t)) (owned (Some t) chain) before after (Some n)) (sym (same_Some top (root t) rooted.rooted))
       (left_closed t d.at q content chain rooted.stands rooted.ordered ends less beside.linked beside.counted beside.once room.1 room.0 was closed)

@@ -11,10 +11,11 @@ use Rattle.pool.specs.declared.node.Node.TheVariants.{Leaf, Branch}
 use Rattle.pool.specs.declared.account.Account.{Account}
 use Rattle.pool.specs.Slice.{At, Stands, Chain}
 use Rattle.pool.specs.Walks.{Left}
-use Rattle.pool.proofs.Reading.{one_node}
+use Rattle.pool.proofs.Reading.{one_node, written_there, kept_elsewhere}
+use Rattle.pool.proofs.After.{stands_kept}
 use Rattle.edits.specs.Owned.{owned}
 use Rattle.edits.specs.Inserted.{with_update}
-use Rattle.edits.proofs.Writing.{apart, not_one, at_same, at_set_same, at_set_other, stands_kept, chain_kept}
+use Rattle.edits.proofs.Writing.{apart, not_one, at_same, chain_kept}
 
 module _ {K V : Type 0} (κ : KeyModel K) (join : V → V → V) (x : K) (v : V) (a b w m : ℕ) where
   module _ (ns ns' : List (Node K V))
@@ -120,16 +121,16 @@ module _ {K V : Type 0} (κ : KeyModel K) (join : V → V → V) (x : K) (v : V)
       let two_set : List (Node K V) = set one_set b (Leaf x v) in
       let keep : (j : ℕ) → (j ≡ w → ⊥) → (j ≡ a → ⊥) → (j ≡ b → ⊥) → (y : Node K V) → At ns j y → At ns' j y =
       λ j jw ja jb y h. subst (λ (n : List (Node K V)). At n j y) (sym written)
-      (at_set_other two_set w _ j y jw (at_set_other one_set b _ j y jb (at_set_other ns a old j y ja h))) in
+      (kept_elsewhere two_set w _ j y jw (kept_elsewhere one_set b _ j y jb (kept_elsewhere ns a old j y ja h))) in
       let moved : (y : Node K V) → At ns w y → At ns' a y =
       λ y h. subst (λ (n : List (Node K V)). At n a y) (sym written)
-      (at_set_other two_set w _ a y (λ e. wa (sym e)) (at_set_other one_set b _ a y ab
-      (at_same one_set a a y old refl (one_node ns w w y old refl h was) (at_set_same ns a old la)))) in
+      (kept_elsewhere two_set w _ a y (λ e. wa (sym e)) (kept_elsewhere one_set b _ a y ab
+      (at_same one_set a a y old refl (one_node ns w w y old refl h was) (written_there ns a old la)))) in
       let new : At ns' b (Leaf x v) = subst (λ (n : List (Node K V)). At n b (Leaf x v)) (sym written)
-      (at_set_other two_set w _ b _ (λ e. wb (sym e)) (at_set_same one_set b (Leaf x v) (rw length-set lb))) in
+      (kept_elsewhere two_set w _ b _ (λ e. wb (sym e)) (written_there one_set b (Leaf x v) (rw length-set lb))) in
       let forked : At ns' w (Branch m x (cond (κ.bit x m) a b) (cond (κ.bit x m) b a)) =
       subst (λ (n : List (Node K V)). At n w (Branch m x (cond (κ.bit x m) a b) (cond (κ.bit x m) b a))) (sym written)
-      (at_set_same two_set w _ (rw (length-set, length-set) was.0)) in
+      (written_there two_set w _ (rw (length-set, length-set) was.0)) in
       let chained : ℕ → ℕ = λ j. times j rest in
       record {
         map = Some (grown κ join x v a b w m t s);
@@ -158,13 +159,13 @@ module _ {K V : Type 0} (κ : KeyModel K) (join : V → V → V) (x : K) (v : V)
       let count : ℕ → ℕ = λ j. uses j t in
       let chained : ℕ → ℕ = λ j. times j chain in
       let keep : (j : ℕ) → (j ≡ w → ⊥) → (y : Node K V) → At ns j y → At ns' j y =
-      λ j jw y h. subst (λ (n : List (Node K V)). At n j y) (sym written) (at_set_other ns w _ j y jw h) in
+      λ j jw y h. subst (λ (n : List (Node K V)). At n j y) (sym written) (kept_elsewhere ns w _ j y jw h) in
       let joins : (j : K) (z : V) → At ns w (Leaf j z) → At ns' w (Leaf j (join z v)) =
       λ j z h. let node = one_node ns w w _ _ refl h was in
       let same_key_there : j ≡ k = cc in
       let same_record : z ≡ u = cc in
       let same : Leaf j (join z v) ≡ Leaf k (join u v) = cc in
-      subst (λ (n : List (Node K V)). At n w (Leaf j (join z v))) (sym written) (at_same _ w w _ _ refl same (at_set_same ns w (Leaf k (join u v)) was.0)) in
+      subst (λ (n : List (Node K V)). At n w (Leaf j (join z v))) (sym written) (at_same _ w w _ _ refl same (written_there ns w (Leaf k (join u v)) was.0)) in
       record {
         map = Some (grown κ join x v 0 0 w m t s);
         chain = chain;

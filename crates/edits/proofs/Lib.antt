@@ -1,9 +1,6 @@
-pub mod Releasing
 pub mod Pending
-pub mod Standing
 pub mod Writing
 pub mod Seeking
-pub mod Descending
 pub mod Growing
 pub mod Updating
 pub mod Shrinking

@@ -16,7 +16,8 @@ use Rattle.pool.specs.Walks.{Rooted, Beside, Left}
 use Rattle.pool.proofs.Reading.{one_node, written_there, kept_elsewhere}
 use Rattle.pool.proofs.Standing.{root_within, none_at_free}
 use Rattle.edits.specs.Clears.{sides, Stuck}
-use Rattle.edits.proofs.Releasing.{stands_kept, chain_kept}
+use Rattle.pool.proofs.After.{stands_kept}
+use Rattle.edits.proofs.Writing.{chain_kept}
 
 module _ {K V : Type 0} where
   abbrev pub uses_all : ℕ → List (Tree K V) → ℕ
@@ -97,7 +98,7 @@ module _ {K V : Type 0} (κ : KeyModel K) (ns₀ : List (Node K V)) (before : Ac
     pub first_few : κ.PLACES ≤ 64 → (q : ℕ) (k : K) (left right : ℕ) → At ns at (Branch q k left right) → 64 ≤ length is → ⊥
     first_few few q k left right a full = first ⊥ go where
       go : (t : Tree K V) (ts : List (Tree K V)) → Stands ns t → root t ≡ at → Ordered κ (length is) t → size t + size_all ts + length p.chain ≤ account.capacity → ⊥
-      go (leaf i k' v) ts s e o room = let same = one_node ns i at _ _ e s a in let z : ◌≡◌ {A = ℕ} 0 1 = cc in omega arith
+      go (leaf i k' v) ts s e o room = let same = one_node ns i at _ _ e s a in cc
       go (branch i q' k' l r) ts s e o room = omega (arith, o.0, o.1)
 
     pub first_not_stuck : κ.PLACES ≤ 64 → (x : Node K V) → At ns at x → Stuck x is → ⊥

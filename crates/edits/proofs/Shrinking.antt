@@ -1,5 +1,6 @@
 -- The key's leaf taken from a tree that stands in a slice, and the branch above it closed up.
 use Rattle.std.proofs.Common.{◌≡◌, ℕ, ◌+◌, ◌≤◌, Bool, true, false, cond, ◌⊎◌, List, [], ◌∷◌, Some, None, Option, sym, refl, ap, ◌∙◌, subst, inl, inr, ⊎_elim, arith}
+use Rattle.std.proofs.lemmas.Option.{same_Some}
 use Rattle.keys.specs.Model.{KeyModel, number}
 use Rattle.trees.specs.Tree.{Tree, leaf, branch, one, root, uses, move}
 use Rattle.trees.specs.Remove.{removed, freed}
@@ -8,14 +9,15 @@ use Rattle.trees.proofs.Remove.{removed_keeps, removed_loses, freed_keeps, freed
 use Rattle.pool.specs.declared.node.Node.{Node}
 use Rattle.pool.specs.declared.node.Node.TheVariants.{Branch}
 use Rattle.pool.specs.Slice.{At, Stands}
-use Rattle.edits.specs.declared.landing.Parent.{Parent}
-use Rattle.edits.specs.declared.landing.Landing.{Landing}
-use Rattle.edits.specs.WalkEnds.{landing}
-use Rattle.edits.proofs.Writing.{some_inj, not_one, at_same, stands_kept, stands_moved}
+use Rattle.pool.proofs.After.{stands_kept}
+use Rattle.walks.specs.declared.descent.Parent.{Parent}
+use Rattle.walks.specs.declared.descent.Landing.{Landing}
+use Rattle.walks.specs.Landings.{landing}
+use Rattle.edits.proofs.Writing.{not_one, at_same, stands_moved}
 
 parent_of : (a b c d : ℕ) → ◌≡◌ {A = Option Parent} (Some (record { at = a; sibling = b })) (Some (record { at = c; sibling = d })) → (a ≡ c) × (b ≡ d)
 parent_of a b c d e =
-    let same = some_inj _ _ e in
+    let same = same_Some _ _ e in
     (ap (λ (q : Parent). q.at) same, ap (λ (q : Parent). q.sibling) same)
 
 module _ {K V : Type 0} where
@@ -81,7 +83,7 @@ module _ {K V : Type 0} (κ : KeyModel K) (x : K) (end parent sibling : ℕ) whe
       within = λ j. omega (arith, sides_uses b j l r, lost.within j);
     }
 
-  pub lost : (t : Tree K V) (above : Option Parent) → Ends (landing κ x above t) → Gone above t ⊎ Lost t
+  pub lost : (t : Tree K V) (above : Option Parent) → Ends (landing (κ.bit x) above t) → Gone above t ⊎ Lost t
   lost (leaf i k v) above ends = inl (record {
     all = removed_leaf κ x i k v ends.of_key;
     gave = freed_leaf κ x i k v ends.of_key ∙ ap (λ (n : ℕ). n ∷ []) ends.at_end;
@@ -95,8 +97,8 @@ module _ {K V : Type 0} (κ : KeyModel K) (x : K) (end parent sibling : ℕ) whe
     right : Option Parent
     right = Some (record { at = i; sibling = root l })
 
-    by_bit : (b : Bool) → κ.bit x p ≡ b → (Ends (landing κ x left l) → Gone left l ⊎ Lost l) → (Ends (landing κ x right r) → Gone right r ⊎ Lost r)
-        → Ends (cond b (landing κ x right r) (landing κ x left l)) → Lost (branch i p k l r)
+    by_bit : (b : Bool) → κ.bit x p ≡ b → (Ends (landing (κ.bit x) left l) → Gone left l ⊎ Lost l) → (Ends (landing (κ.bit x) right r) → Gone right r ⊎ Lost r)
+        → Ends (cond b (landing (κ.bit x) right r) (landing (κ.bit x) left l)) → Lost (branch i p k l r)
     by_bit true e in_left in_right h = ⊎_elim (lost_here i p k l r true e) (lost_below i p k l r true e) (in_right h)
     by_bit false e in_left in_right h = ⊎_elim (lost_here i p k l r false e) (lost_below i p k l r false e) (in_left h)
 
@@ -139,10 +141,10 @@ module _ {K V : Type 0} (κ : KeyModel K) (x : K) (end parent sibling : ℕ) whe
           near)
 
     -- what is left stands
-    pub stands_lost : (t : Tree K V) (above : Option Parent) → Ends (landing κ x above t) → Stands ns t → ((j : ℕ) → uses j t ≤ 1)
+    pub stands_lost : (t : Tree K V) (above : Option Parent) → Ends (landing (κ.bit x) above t) → Stands ns t → ((j : ℕ) → uses j t ≤ 1)
         → (tree : Tree K V) → removed κ x t ≡ Some tree → Stands ns' tree
     stands_lost (leaf i k v) above ends st once tree rest =
-        let gone = removed_leaf κ x i k v ends.of_key in absurd (let z : ◌≡◌ {A = ℕ} 0 1 = cc in omega arith)
+        let gone = removed_leaf κ x i k v ends.of_key in absurd cc
     stands_lost (branch i p k l r) above ends st once tree rest =
         by_bit (κ.bit x p) refl (λ h. stands_lost l _ h st.1 (λ j. omega (arith, once j))) (λ h. stands_lost r _ h st.2 (λ j. omega (arith, once j))) ends
       where
@@ -152,9 +154,9 @@ module _ {K V : Type 0} (κ : KeyModel K) (x : K) (end parent sibling : ℕ) whe
         right : Option Parent
         right = Some (record { at = i; sibling = root l })
 
-        by_bit : (b : Bool) → κ.bit x p ≡ b → (Ends (landing κ x left l) → (c : Tree K V) → removed κ x l ≡ Some c → Stands ns' c)
-            → (Ends (landing κ x right r) → (c : Tree K V) → removed κ x r ≡ Some c → Stands ns' c)
-            → Ends (cond b (landing κ x right r) (landing κ x left l)) → Stands ns' tree
+        by_bit : (b : Bool) → κ.bit x p ≡ b → (Ends (landing (κ.bit x) left l) → (c : Tree K V) → removed κ x l ≡ Some c → Stands ns' c)
+            → (Ends (landing (κ.bit x) right r) → (c : Tree K V) → removed κ x r ≡ Some c → Stands ns' c)
+            → Ends (cond b (landing (κ.bit x) right r) (landing (κ.bit x) left l)) → Stands ns' tree
         by_bit true e in_left in_right h =
             ⊎_elim (stands_here i p k l r true e st once tree rest)
             (λ below. stands_below i p k l r true e st once tree rest below.tree below below.rest (in_right h below.tree below.rest))

@@ -9,12 +9,16 @@ use Rattle.pool.specs.declared.account.Account.{Account}
 use Rattle.pool.specs.Slice.{At, Chain}
 use Rattle.pool.specs.Nodes.{Took}
 use Rattle.pool.specs.Walks.{Rooted, Beside, Left}
+use Rattle.walks.specs.declared.sides.Sides.{Sides}
+use Rattle.edits.specs.declared.seat.Gap.{Gap}
 use Rattle.edits.specs.declared.seat.Seat.TheVariants.{Taken, Open}
 use Rattle.edits.specs.Owned.{owned}
-use Rattle.edits.specs.WalkEnds.{SeatedIfAny}
+use Rattle.edits.specs.Seats.{SeatedIfAny}
 use Rattle.edits.specs.Writes.{TookTwo, Forked}
 use Rattle.edits.specs.Inserted.{with_update}
-use Rattle.edits.proofs.Writing.{some_inj, apart, not_one, at_set_same, at_set_other, chain_kept, took_first}
+use Rattle.std.proofs.lemmas.Option.{same_Some}
+use Rattle.pool.proofs.Reading.{written_there, kept_elsewhere}
+use Rattle.edits.proofs.Writing.{apart, not_one, chain_kept, took_first}
 use Rattle.edits.proofs.Growing.{left_forked, left_joined}
 
 module _ {K V : Type 0} (κ : KeyModel K) (join : V → V → V) (x : K) (v : V) (ns ns' : List (Node K V)) (before after : Account) where
@@ -27,11 +31,11 @@ module _ {K V : Type 0} (κ : KeyModel K) (join : V → V → V) (x : K) (v : V)
       let oi = once i in
       let chained : ℕ → ℕ = λ k. times k rest in
       let keep : (k : ℕ) → (k ≡ i → ⊥) → (y : Node K V) → At ns k y → At ns' k y =
-      λ k other y h. subst (λ (n : List (Node K V)). At n k y) (sym written) (at_set_other ns i _ k y other h) in
+      λ k other y h. subst (λ (n : List (Node K V)). At n k y) (sym written) (kept_elsewhere ns i _ k y other h) in
       record {
         map = Some (leaf i x v);
         chain = rest;
-        standing = record { rooted = refl; stands = subst (λ (n : List (Node K V)). At n i (Leaf x v)) (sym written) (at_set_same ns i (Leaf x v) within); ordered = tt };
+        standing = record { rooted = refl; stands = subst (λ (n : List (Node K V)). At n i (Leaf x v)) (sym written) (written_there ns i (Leaf x v) within); ordered = tt };
         found = λ y. refl;
         linked = chain_kept ns ns' after.head rest (λ k h. keep k (apart chained i k (omega arith) h)) linked;
         counted = omega arith;
@@ -42,7 +46,7 @@ module _ {K V : Type 0} (κ : KeyModel K) (join : V → V → V) (x : K) (v : V)
 
   pub inserted_first : (i : ℕ) (map : Option (Tree K V)) (chain : List ℕ) → Rooted κ ns None map → Beside ns before map chain → Took ns before i after
       → (i < length ns → ns' ≡ set ns i (Leaf x v)) → Left κ ns ns' (with_update κ join x v map) (owned map chain) before after (Some i)
-  inserted_first i (Some t) chain rooted beside took written = let none = rooted.rooted in absurd (let z : ◌≡◌ {A = ℕ} 0 1 = cc in omega arith)
+  inserted_first i (Some t) chain rooted beside took written = let none = rooted.rooted in absurd cc
   inserted_first i None [] rooted beside took written = absurd (let counted = beside.counted in let fewer = took.fewer in omega arith)
   inserted_first i None (j ∷ rest) rooted beside took written =
       let first = took_first ns before after i j rest took beside.linked in
@@ -67,15 +71,15 @@ module _ {K V : Type 0} (κ : KeyModel K) (join : V → V → V) (x : K) (v : V)
       subst₂ (λ (a b : ℕ). Left κ ns ns' (with_update κ join x v (Some t)) (owned (Some t) (a ∷ (b ∷ rest))) before after (Some (root t))) first.0 second.0
       (left rest second.1 (omega arith) once_taken)
 
-  pub inserted_fork : (top i place : ℕ) (old : Node K V) (moved new : ℕ) (map : Option (Tree K V)) (chain : List ℕ)
-      → Rooted κ ns (Some top) map → Beside ns before map chain → SeatedIfAny κ ns x (Open i place) map → At ns i old → TookTwo ns before moved new after
-      → Forked κ x v ns ns' i place old moved new
+  pub inserted_fork : (top : ℕ) (gap : Gap) (old : Node K V) (sides : Sides) (map : Option (Tree K V)) (chain : List ℕ)
+      → Rooted κ ns (Some top) map → Beside ns before map chain → SeatedIfAny κ ns x (Open gap) map → At ns gap.at old → TookTwo ns before sides.far sides.near after
+      → Forked κ x v ns ns' gap old sides
       → Left κ ns ns' (with_update κ join x v map) (owned map chain) before after (Some top)
-  inserted_fork top i place old moved new None chain rooted beside seated was took forked = absurd seated
-  inserted_fork top i place old moved new (Some t) chain rooted beside seated was took forked =
-      subst (λ (n : ℕ). Left κ ns ns' (with_update κ join x v (Some t)) (owned (Some t) chain) before after (Some n)) (sym (some_inj top (root t) rooted.rooted))
-      (two_taken t moved new chain beside.linked beside.counted beside.once took
-      (λ rest linked counted once. left_forked κ join x v ns ns' i place t rooted.stands rooted.ordered seated.1.2 moved new rest old before after
+  inserted_fork top gap old sides None chain rooted beside seated was took forked = absurd seated
+  inserted_fork top gap old sides (Some t) chain rooted beside seated was took forked =
+      subst (λ (n : ℕ). Left κ ns ns' (with_update κ join x v (Some t)) (owned (Some t) chain) before after (Some n)) (sym (same_Some top (root t) rooted.rooted))
+      (two_taken t sides.far sides.near chain beside.linked beside.counted beside.once took
+      (λ rest linked counted once. left_forked κ join x v ns ns' gap.at gap.place t rooted.stands rooted.ordered seated.1.2 sides.far sides.near rest old before after
       seated.1.1 was took.one.free.0 took.two.free.0 linked counted (took.two.capacity ∙ took.one.capacity) once
       (forked was.0 took.one.free.0 took.two.free.0)))
 
@@ -86,6 +90,6 @@ pub inserted_join : {K V : Type 0} (κ : KeyModel K) (join : V → V → V) (x :
     → Left κ ns ns' (with_update κ join x v map) (owned map chain) account account (Some top)
 inserted_join κ join x v ns ns' account top i k u None chain rooted beside seated written = absurd seated
 inserted_join κ join x v ns ns' account top i k u (Some t) chain rooted beside seated written =
-    subst (λ (n : ℕ). Left κ ns ns' (with_update κ join x v (Some t)) (owned (Some t) chain) account account (Some n)) (sym (some_inj top (root t) rooted.rooted))
+    subst (λ (n : ℕ). Left κ ns ns' (with_update κ join x v (Some t)) (owned (Some t) chain) account account (Some n)) (sym (same_Some top (root t) rooted.rooted))
     (left_joined κ join x v ns ns' i κ.PLACES t rooted.stands rooted.ordered seated.1 chain k u account (omega arith) seated.0
     beside.linked beside.counted beside.once (written seated.0.0))

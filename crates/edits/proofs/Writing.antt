@@ -1,16 +1,13 @@
 -- Trees and the free chain in a slice while nodes of it are written.
-use Rattle.std.proofs.Common.{◌≡◌, ℕ, ◌+◌, ◌<◌, ◌≤◌, List, [], ◌∷◌, length, set, Some, sym, refl, ap, ◌∙◌, subst, arith, length-set, get_or-set_other, get_or-set_same}
+use Rattle.std.proofs.Common.{◌≡◌, ℕ, ◌+◌, ◌≤◌, List, [], ◌∷◌, length, sym, refl, ap, ◌∙◌, subst, arith}
 use Rattle.trees.specs.Tree.{Tree, leaf, branch, one, times, root, uses, move}
 use Rattle.trees.proofs.Move.{one_same}
 use Rattle.pool.specs.declared.node.Node.{Node}
-use Rattle.pool.specs.declared.node.Node.TheVariants.{Leaf}
 use Rattle.pool.specs.declared.account.Account.{Account}
 use Rattle.pool.specs.Slice.{At, Stands, Chain}
 use Rattle.pool.specs.Nodes.{Took}
 use Rattle.pool.proofs.Reading.{one_node}
-
-pub some_inj : {A : Type 0} (a b : A) → Some a ≡ Some b → a ≡ b
-some_inj a b e = cc
+use Rattle.pool.proofs.After.{stands_kept}
 
 -- what is counted somewhere is not where nothing is counted
 pub apart : (f : ℕ → ℕ) (i j : ℕ) → f i ≡ 0 → 1 ≤ f j → j ≡ i → ⊥
@@ -23,21 +20,6 @@ not_one i j h e = omega (arith, one_same i j (sym e))
 module _ {K V : Type 0} where
   pub at_same : (ns : List (Node K V)) (i w : ℕ) (x y : Node K V) → i ≡ w → x ≡ y → At ns w y → At ns i x
   at_same ns i w x y e f h = subst (λ (z : ℕ). At ns z x) (sym e) (subst (λ (z : Node K V). At ns w z) (sym f) h)
-
-  pub at_set_same : (ns : List (Node K V)) (i : ℕ) (x : Node K V) → i < length ns → At (set ns i x) i x
-  at_set_same ns i x h = (rw length-set h, get_or-set_same ns i x x h)
-
-  pub at_set_other : (ns : List (Node K V)) (i : ℕ) (y : Node K V) (j : ℕ) (x : Node K V) → (j ≡ i → ⊥) → At ns j x → At (set ns i y) j x
-  at_set_other ns i y j x ne h = (rw length-set h.0, get_or-set_other ns i j y x ne ∙ h.1)
-
-  -- a tree stands as long as its own nodes are kept
-  pub stands_kept : (ns ns' : List (Node K V)) (t : Tree K V) → ((j : ℕ) → 1 ≤ uses j t → (x : Node K V) → At ns j x → At ns' j x) → Stands ns t → Stands ns' t
-  stands_kept ns ns' (leaf i k v) keep s = keep i (omega (arith, one_same i i refl)) (Leaf k v) s
-  stands_kept ns ns' (branch i p k l r) keep s = (
-    keep i (omega (arith, one_same i i refl)) _ s.0,
-    stands_kept ns ns' l (λ j h. keep j (omega arith)) s.1,
-    stands_kept ns ns' r (λ j h. keep j (omega arith)) s.2,
-  )
 
   -- moved to another node, it stands as long as the rest of them are
   pub stands_moved : (ns ns' : List (Node K V)) (a : ℕ) (t : Tree K V) → ((x : Node K V) → At ns (root t) x → At ns' a x)

@@ -11,7 +11,7 @@ use Rattle.edits.specs.declared.fault.InsertFault.{InsertFault}
 use Rattle.edits.specs.declared.fault.InsertFault.TheVariants.{TooFewNodes}
 use Rattle.edits.specs.declared.seat.Seat.{Seat}
 use Rattle.edits.specs.Owned.{owned}
-use Rattle.edits.specs.WalkEnds.{SeatedIfAny}
+use Rattle.edits.specs.Seats.{SeatedIfAny}
 
 module _ {K V : Type 0} (κ : KeyModel K) (join : V → V → V) (x : K) (v : V) where
   -- what each key finds in a map once v is told at x

@@ -1,6 +1,6 @@
 pub mod Clears
 pub mod Owned
-pub mod WalkEnds
+pub mod Seats
 pub mod Writes
 pub mod Inserted
 pub mod Removed

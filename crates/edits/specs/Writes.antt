@@ -7,7 +7,9 @@ use Rattle.pool.specs.declared.node.Node.TheVariants.{Free, Leaf, Branch}
 use Rattle.pool.specs.declared.account.Account.{Account}
 use Rattle.pool.specs.Nodes.{Took}
 use Rattle.pool.specs.Walks.{Beside}
-use Rattle.edits.specs.declared.landing.Parent.{Parent}
+use Rattle.walks.specs.declared.descent.Parent.{Parent}
+use Rattle.walks.specs.declared.sides.Sides.{Sides}
+use Rattle.edits.specs.declared.seat.Gap.{Gap}
 
 -- two nodes taken from the free chain, one after the other
 pub record TookTwo {K V : Type 0} (ns : List (Node K V)) (before : Account) (first second : ℕ) (after : Account) : Type 0 where
@@ -19,11 +21,12 @@ pub record TookTwo {K V : Type 0} (ns : List (Node K V)) (before : Account) (fir
 abbrev pub NotTwoFree : {K V : Type 0} → List (Node K V) → Account → Type 0
 NotTwoFree {K} {V} ns account = (map : Option (Tree K V)) (chain : List ℕ) → Beside ns account map chain → 2 ≤ account.free → ⊥
 
--- a fork at node i for a leaf of x and v: what stood there moves to one node, the leaf takes another, and a branch takes
--- their place, the leaf on the side that the bit of x names
-abbrev pub Forked : {K V : Type 0} → KeyModel K → K → V → List (Node K V) → List (Node K V) → ℕ → ℕ → Node K V → ℕ → ℕ → Type 0
-Forked κ x v ns ns' i place old moved new = i < length ns → moved < length ns → new < length ns
-    → ns' ≡ slice_set (slice_set (slice_set ns moved old) new (Leaf x v)) i (Branch place x (cond (κ.bit x place) moved new) (cond (κ.bit x place) new moved))
+-- a fork in a gap for a leaf of x and v: what stood at the gap's node moves to the far node, the leaf takes the near one, and
+-- a branch takes their place, the leaf on the side that the bit of x names
+abbrev pub Forked : {K V : Type 0} → KeyModel K → K → V → List (Node K V) → List (Node K V) → Gap → Node K V → Sides → Type 0
+Forked κ x v ns ns' gap old sides = gap.at < length ns → sides.far < length ns → sides.near < length ns
+    → ns' ≡ slice_set (slice_set (slice_set ns sides.far old) sides.near (Leaf x v)) gap.at
+    (Branch gap.place x (cond (κ.bit x gap.place) sides.far sides.near) (cond (κ.bit x gap.place) sides.near sides.far))
 
 -- a branch closed up over the leaf at node i: what stood at the leaf's sibling takes the branch's node, and the nodes of
 -- the leaf and of the sibling are the first free ones

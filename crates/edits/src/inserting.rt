@@ -1,21 +1,24 @@
 // A record told at a key of one map.
-ghost use Rattle.std.specs.Prelude.{◌≡◌, ◌<◌, length, if◌then◌else◌, Some, None, Err, Option, MatchResult, slice_set};
-ghost use Rattle.pool.specs.declared.node.Node.TheVariants.{Branch, Leaf};
+ghost use Rattle.std.specs.Prelude.{◌≡◌, ◌<◌, length, Some, None, Err, Option, MatchResult, slice_set};
+ghost use Rattle.pool.specs.declared.node.Node.TheVariants.{Leaf};
 ghost use Rattle.edits.specs.Inserted.{Inserts, InsertsAt};
 ghost use Rattle.edits.specs.Writes.{Forked, NotTwoFree, TookTwo};
 ghost use Rattle.edits.specs.declared.fault.InsertFault.TheVariants.{TooFewNodes};
 ghost use Rattle.edits.specs.declared.seat.Seat.TheVariants.{Open};
 
 use crate::fault::InsertFault;
-use crate::seat::{Seat, seek};
+use crate::seat::{Gap, Seat, seek};
 use keys::KeyKind;
 use pool::inner::{node_at, take_free, write_node};
 use pool::{Account, Node, OutOfOrder};
 use records::Joining;
+use walks::inner::{Sides, branch_over};
 
-const NODES_OF_A_FIRST_LEAF: u16 = 1;
+// an empty map takes a leaf
+const NODES_OF_A_FIRST_KEY: u16 = 1;
 
-const NODES_OF_A_FORK: u16 = 2;
+// a map that has keys takes a leaf and a branch over it
+const NODES_OF_A_FURTHER_KEY: u16 = 2;
 
 // Writes to a leaf the record that it holds, joined with what is told.
 fn join_leaf<K: Copy, V: Joining>(nodes: &mut [Node<K, V>], at: u16, own: K, held: V, told: V)
@@ -31,55 +34,34 @@ fn join_leaf<K: Copy, V: Joining>(nodes: &mut [Node<K, V>], at: u16, own: K, hel
     );
 }
 
-// The branch over a new leaf and the node that moved aside for it, each on the side that its keys' bit names.
-fn branch_over<K: KeyKind, V: Copy>(place: u8, key: K, leaf: u16, moved: u16) -> Node<K, V>
-    ensures leaf_by_its_bit { result ≡ Branch place key (if K.KeyKind.bit key place then moved else leaf) (if K.KeyKind.bit key place then leaf else moved) }
-{
-    if key.bit_at(place) {
-        Node::Branch {
-            place,
-            key,
-            zero: moved,
-            one: leaf,
-        }
-    } else {
-        Node::Branch {
-            place,
-            key,
-            zero: leaf,
-            one: moved,
-        }
-    }
-}
-
-// Writes a fork at the node `at`: what stood there moves to one free node, a new leaf takes another.
+// Writes a fork: what stood at the gap's node moves to the far side, and the near side, which the key's bit names, is
+// a new leaf.
 fn write_fork<K: KeyKind, V: Copy>(
     nodes: &mut [Node<K, V>],
-    at: u16,
+    gap: Gap,
     old: Node<K, V>,
-    place: u8,
-    moved: u16,
-    leaf: u16,
+    sides: Sides,
     key: K,
     told: V,
 )
-    ensures forked_there { Forked (K.KeyKind) key told nodes.old nodes.new at place old moved leaf }
+    ensures forked_there { Forked (K.KeyKind) key told nodes.old nodes.new gap old sides }
 {
-    write_node(nodes, moved, old);
-    write_node(nodes, leaf, Node::Leaf { key, record: told });
-    write_node(nodes, at, branch_over(place, key, leaf, moved));
+    let Gap { at, place } = gap;
+    write_node(nodes, sides.far, old);
+    write_node(nodes, sides.near, Node::Leaf { key, record: told });
+    write_node(nodes, at, branch_over(place, key, key.bit_at(place), sides));
 }
 
-// Takes two nodes of the free chain, and is refused only where there are not two.
-fn take_two<K: Copy, V: Copy>(
+// Takes a node of the free chain for each side of a fork, and is refused only where there are not two.
+fn take_sides<K: Copy, V: Copy>(
     nodes: &[Node<K, V>],
     account: Account,
-) -> Result<(u16, u16, Account), OutOfOrder>
-    ensures first_two_of_chain { MatchResult result (λ t. TookTwo nodes.now account t.0 t.1 t.2) (λ _. NotTwoFree nodes.now account) }
+) -> Result<(Sides, Account), OutOfOrder>
+    ensures first_two_of_chain { MatchResult result (λ t. TookTwo nodes.now account t.0.far t.0.near t.1) (λ _. NotTwoFree nodes.now account) }
 {
-    let (first, between) = take_free(nodes, account)?;
-    let (second, after) = take_free(nodes, between)?;
-    Ok((first, second, after))
+    let (far, between) = take_free(nodes, account)?;
+    let (near, after) = take_free(nodes, between)?;
+    Ok((Sides { near, far }, after))
 }
 
 // The first leaf of a map.
@@ -92,7 +74,7 @@ fn plant<K: KeyKind, V: Joining>(
     ensures adds_one_update { Inserts (K.KeyKind) V.Joining.joined key told nodes.old nodes.new account None result }
     ensures too_few_changes_nothing { result ≡ Err TooFewNodes → nodes.new ≡ nodes.old }
 {
-    if account.free < NODES_OF_A_FIRST_LEAF {
+    if account.free < NODES_OF_A_FIRST_KEY {
         return Err(InsertFault::TooFewNodes);
     }
     let (at, after) = take_free(nodes, account)?;
@@ -100,25 +82,24 @@ fn plant<K: KeyKind, V: Joining>(
     Ok((at, after))
 }
 
-// A new leaf beside the node `at`, under a branch at `place`.
+// A new leaf in a gap, under a branch there.
 fn fork<K: KeyKind, V: Joining>(
     nodes: &mut [Node<K, V>],
     account: Account,
     top: u16,
-    at: u16,
-    place: u8,
+    gap: Gap,
     key: K,
     told: V,
 ) -> Result<(u16, Account), InsertFault>
-    ensures adds_one_update { InsertsAt (K.KeyKind) V.Joining.joined key told (Open at place) nodes.old nodes.new account (Some top) result }
+    ensures adds_one_update { InsertsAt (K.KeyKind) V.Joining.joined key told (Open gap) nodes.old nodes.new account (Some top) result }
     ensures too_few_changes_nothing { result ≡ Err TooFewNodes → nodes.new ≡ nodes.old }
 {
-    if account.free < NODES_OF_A_FORK {
+    if account.free < NODES_OF_A_FURTHER_KEY {
         return Err(InsertFault::TooFewNodes);
     }
-    let old = node_at(nodes, at)?;
-    let (moved, leaf, after) = take_two(nodes, account)?;
-    write_fork(nodes, at, old, place, moved, leaf, key, told);
+    let old = node_at(nodes, gap.at)?;
+    let (sides, after) = take_sides(nodes, account)?;
+    write_fork(nodes, gap, old, sides, key, told);
     Ok((top, after))
 }
 
@@ -139,7 +120,7 @@ fn grow<K: KeyKind, V: Joining>(
             join_leaf(nodes, at, own, held, told);
             Ok((top, account))
         }
-        Seat::Open { at, place } => fork(nodes, account, top, at, place, key, told),
+        Seat::Open(gap) => fork(nodes, account, top, gap, key, told),
     }
 }
 

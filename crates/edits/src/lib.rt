@@ -8,11 +8,9 @@
 mod clearing;
 mod fault;
 mod inserting;
-mod landing;
 mod removal;
 mod removing;
 mod seat;
-mod sides;
 
 pub use clearing::clear;
 pub use fault::InsertFault;

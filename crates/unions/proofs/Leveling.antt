@@ -109,9 +109,9 @@ module _ {K V : Type 0} (κ : KeyModel K) (join : V → V → V) (ns ns' : List 
       → Work κ join ns' after turns (record { into = left; from = left' } ∷ (record { into = right; from = right' } ∷ rest)) end last
       → Outcome κ join ns account (record { into = t; add = u; least = least } ∷ is) chain end last
   level_trees p q k j left right left' right' (leaf i k₁ v₁) u at at' ready same agree next =
-      let n = one_node ns i job.into _ _ ready.fits.0.into_root ready.fits.0.into_stands at in absurd (let z : ◌≡◌ {A = ℕ} 0 1 = cc in omega arith)
+      let n = one_node ns i job.into _ _ ready.fits.0.into_root ready.fits.0.into_stands at in absurd cc
   level_trees p q k j left right left' right' (branch i p₁ k₁ l r) (leaf i' k₂ v₂) at at' ready same agree next =
-      let n = one_node ns i' job.from _ _ ready.fits.0.add_root ready.fits.0.add_stands at' in absurd (let z : ◌≡◌ {A = ℕ} 0 1 = cc in omega arith)
+      let n = one_node ns i' job.from _ _ ready.fits.0.add_root ready.fits.0.add_stands at' in absurd cc
   level_trees p q k j left right left' right' (branch i p₁ k₁ l r) (branch i' p₂ k₂ l' r') at at' ready same agree next =
       let n = one_node ns i job.into _ _ ready.fits.0.into_root ready.fits.0.into_stands.0 at in
       let n' = one_node ns i' job.from _ _ ready.fits.0.add_root ready.fits.0.add_stands.0 at' in
@@ -182,9 +182,9 @@ module _ {K V : Type 0} (κ : KeyModel K) (law : KeyLaws κ) (join : V → V →
       → Agree κ (place κ t) (key u) (key t) → Work κ join ns' after turns rest end last
       → Outcome κ join ns account (record { into = t; add = u; least = least } ∷ is) chain end last
   leaf_trees (branch i p l r s) u ready agree next =
-      let n = one_node ns i job.into _ _ ready.fits.0.into_root ready.fits.0.into_stands.0 at in absurd (let z : ◌≡◌ {A = ℕ} 0 1 = cc in omega arith)
+      let n = one_node ns i job.into _ _ ready.fits.0.into_root ready.fits.0.into_stands.0 at in absurd cc
   leaf_trees (leaf i k₁ v₁) (branch i' p l r s) ready agree next =
-      let n = one_node ns i' job.from _ _ ready.fits.0.add_root ready.fits.0.add_stands.0 at' in absurd (let z : ◌≡◌ {A = ℕ} 0 1 = cc in omega arith)
+      let n = one_node ns i' job.from _ _ ready.fits.0.add_root ready.fits.0.add_stands.0 at' in absurd cc
   leaf_trees (leaf i k₁ v₁) (leaf i' k₂ v₂) ready agree next =
       let n = one_node ns i job.into _ _ ready.fits.0.into_root ready.fits.0.into_stands at in
       let n' = one_node ns i' job.from _ _ ready.fits.0.add_root ready.fits.0.add_stands at' in

@@ -13,6 +13,7 @@ use Rattle.pool.specs.declared.account.Account.{Account}
 use Rattle.pool.specs.Slice.{At, Stands}
 use Rattle.pool.proofs.Reading.{one_node, written_there, kept_elsewhere}
 use Rattle.pool.proofs.After.{stands_kept}
+use Rattle.edits.proofs.Shrinking.{sides_uses}
 use Rattle.edits.proofs.Writing.{at_same, not_one, stands_moved, chain_kept}
 use Rattle.unions.specs.declared.job.Job.{Job}
 use Rattle.unions.specs.Work.{Item, tree_uses, Ready, Outcome, Work}
@@ -20,10 +21,6 @@ use Rattle.unions.proofs.Working.{Advance, advance, only_one}
 use Rattle.unions.proofs.Facing.{uses_rooted, shared_side}
 
 module _ {K V : Type 0} where
-  pub sides_uses : (b : Bool) (j : ℕ) (l r : Tree K V) → uses j l + uses j r ≡ uses j (cond b r l) + uses j (cond b l r)
-  sides_uses true j l r = omega arith
-  sides_uses false j l r = omega arith
-
   side_smaller : (b : Bool) (l r : Tree K V) → size (cond b r l) + 1 ≤ size l + size r
   side_smaller true l r = omega (arith, size_pos l)
   side_smaller false l r = omega (arith, size_pos r)
@@ -112,7 +109,7 @@ module _ {K V : Type 0} (κ : KeyModel K) (join : V → V → V) (ns : List (Nod
       → Work κ join ns account turns (record { into = cond (κ.bit (key u) p) right left; from = job.from } ∷ rest) end last
       → Outcome κ join ns account (record { into = t; add = u; least = least } ∷ is) chain end last
   into_trees p k left right (leaf i k' v) u at ready below agree next =
-      let q = one_node ns i job.into _ _ ready.fits.0.into_root ready.fits.0.into_stands at in absurd (let z : ◌≡◌ {A = ℕ} 0 1 = cc in omega arith)
+      let q = one_node ns i job.into _ _ ready.fits.0.into_root ready.fits.0.into_stands at in absurd cc
   into_trees p k left right (branch i p' k' l r) u at ready below agree next =
       let q = one_node ns i job.into _ _ ready.fits.0.into_root ready.fits.0.into_stands.0 at in
       let ep : p ≡ p' = cc in
@@ -230,7 +227,7 @@ module _ {K V : Type 0} (κ : KeyModel K) (join : V → V → V) (ns ns' : List 
       → Work κ join ns' account turns (record { into = job.from; from = cond (κ.bit (key t) p) right left } ∷ rest) end last
       → Outcome κ join ns account (record { into = t; add = u; least = least } ∷ is) chain end last
   under_trees p k left right t (leaf i k' v) at' ready below agree written next =
-      let q = one_node ns i job.from _ _ ready.fits.0.add_root ready.fits.0.add_stands at' in absurd (let z : ◌≡◌ {A = ℕ} 0 1 = cc in omega arith)
+      let q = one_node ns i job.from _ _ ready.fits.0.add_root ready.fits.0.add_stands at' in absurd cc
   under_trees p k left right t (branch i p' k' l r) at' ready below agree written next =
       let q = one_node ns i job.from _ _ ready.fits.0.add_root ready.fits.0.add_stands.0 at' in
       let ep : p ≡ p' = cc in

@@ -76,11 +76,11 @@ module _ {K V : Type 0} (κ : KeyModel K) (join : V → V → V) (ns : List (Nod
           of (Leaf k₁ v) (Leaf k₂ w) unlike a a' s s' t u least st su et eu ot ou = unlike tt
           of (Branch p₁ k₁ l r) (Branch p₂ k₂ l' r') unlike a a' s s' t u least st su et eu ot ou = unlike tt
           of (Leaf k₁ v) (Branch p₂ k₂ l' r') unlike a a' s s' t (leaf i k₃ w) least st su et eu ot ou =
-              let e = one_node ns i job.from _ _ eu su a' in let z : ◌≡◌ {A = ℕ} 0 1 = cc in omega arith
+              let e = one_node ns i job.from _ _ eu su a' in cc
           of (Leaf k₁ v) (Branch p₂ k₂ l' r') unlike a a' s s' t (branch i p₃ k₃ l₃ r₃) least st su et eu ot ou =
               let e = one_node ns i job.from _ _ eu su.0 a' in let ep : p₃ ≡ p₂ = cc in omega (arith, s.0, s'.0, meets.0, ou.1)
           of (Branch p₁ k₁ l r) (Leaf k₂ w) unlike a a' s s' (leaf i k₃ v) u least st su et eu ot ou =
-              let e = one_node ns i job.into _ _ et st a in let z : ◌≡◌ {A = ℕ} 0 1 = cc in omega arith
+              let e = one_node ns i job.into _ _ et st a in cc
           of (Branch p₁ k₁ l r) (Leaf k₂ w) unlike a a' s s' (branch i p₃ k₃ l₃ r₃) u least st su et eu ot ou =
               let e = one_node ns i job.into _ _ et st.0 a in let ep : p₃ ≡ p₁ = cc in omega (arith, s.0, s'.0, meets.0, ot.1)
 

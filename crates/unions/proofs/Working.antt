@@ -1,5 +1,5 @@
 -- The work of a union: lists of items and trees, and what every step must show.
-use Rattle.std.proofs.Common.{◌≡◌, ℕ, ◌+◌, ◌-◌, ◌≤◌, List, [], ◌∷◌, ◌++◌, length, sym, refl, ap, ◌∙◌, subst, arith}
+use Rattle.std.proofs.Common.{◌≡◌, ℕ, ◌+◌, ◌≤◌, List, [], ◌∷◌, ◌++◌, length, sym, refl, ap, ◌∙◌, subst, arith}
 use Rattle.keys.specs.Model.{KeyModel, KeyLaws}
 use Rattle.trees.specs.Tree.{Tree, size, uses, times}
 use Rattle.trees.specs.Union.{Union}
@@ -154,12 +154,13 @@ module _ {K V : Type 0} (κ : KeyModel K) (join : V → V → V) (ns : List (Nod
       work_none turns job (later ∷ rest) end last (λ t u least is chain ready. omega (arith, ready.fits.0.deep, ready.fits.0.bounded, law.few))
 
 -- a turn of the loop, from what a step says
-module _ {K V : Type 0} (κ : KeyModel K) (join : V → V → V) (ns : List (Node K V)) (account : Account) (turns : ℕ) (job : Job) (rest : List Job) (end : List (Node K V)) (last : Account) (some : 1 ≤ turns) where
-  pub whole_turns : Work κ join ns account (turns - 1 + 1) (job ∷ rest) end last → Work κ join ns account turns (job ∷ rest) end last
-  whole_turns work = let e : turns - 1 + 1 ≡ turns = omega arith in subst (λ (n : ℕ). Work κ join ns account n (job ∷ rest) end last) e work
+module _ {K V : Type 0} (κ : KeyModel K) (join : V → V → V) (ns : List (Node K V)) (account : Account) (turns left : ℕ) (job : Job) (rest : List Job) (end : List (Node K V)) (last : Account)
+    (fewer : left + 1 ≡ turns) where
+  pub whole_turns : Work κ join ns account (left + 1) (job ∷ rest) end last → Work κ join ns account turns (job ∷ rest) end last
+  whole_turns work = subst (λ (n : ℕ). Work κ join ns account n (job ∷ rest) end last) fewer work
 
   pub turned : (ns' : List (Node K V)) (after : Account) (jobs jobs' : List Job)
-      → (Work κ join ns' after (turns - 1) jobs end last → Work κ join ns account (turns - 1 + 1) (job ∷ rest) end last) → jobs ≡ jobs'
-      → Work κ join ns' after (turns - 1) jobs' end last → Work κ join ns account turns (job ∷ rest) end last
+      → (Work κ join ns' after left jobs end last → Work κ join ns account (left + 1) (job ∷ rest) end last) → jobs ≡ jobs'
+      → Work κ join ns' after left jobs' end last → Work κ join ns account turns (job ∷ rest) end last
   turned ns' after jobs jobs' step same work =
-      whole_turns (step (subst (λ (js : List Job). Work κ join ns' after (turns - 1) js end last) (sym same) work))
+      whole_turns (step (subst (λ (js : List Job). Work κ join ns' after left js end last) (sym same) work))

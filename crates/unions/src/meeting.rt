@@ -4,6 +4,7 @@ ghost use Rattle.unions.specs.Meets.{Meets, Shows, Vacant};
 
 use keys::{KeyKind, first_difference};
 use pool::{Node, OutOfOrder};
+use std::cmp::Ordering;
 
 /// What a node shows of its tree: the place at which it parts, and a key whose first bits are its prefix. A leaf
 /// counts as the number of places.
@@ -46,14 +47,10 @@ pub fn meet<K: KeyKind>(first: Face<K>, second: Face<K>) -> Meeting
 {
     match first_difference(second.key, first.key) {
         Some(place) if place < first.place && place < second.place => Meeting::Apart { place },
-        _ => {
-            if first.place < second.place {
-                Meeting::Into
-            } else if second.place < first.place {
-                Meeting::Under
-            } else {
-                Meeting::Level
-            }
-        }
+        _ => match first.place.cmp(&second.place) {
+            Ordering::Less => Meeting::Into,
+            Ordering::Greater => Meeting::Under,
+            Ordering::Equal => Meeting::Level,
+        },
     }
 }

@@ -13,7 +13,8 @@ use pool::inner::Stack;
 use pool::{Account, Node, OutOfOrder};
 use records::Joining;
 
-const NODES_OF_A_FORK: u16 = 1;
+// where both maps hold something, a branch over both may be wanted
+const NODES_OF_A_UNION: u16 = 1;
 
 // Unites the tree at `other` into the one at `top`. Each turn settles one node for good, so that as many turns as the
 // pool has nodes are enough; on a slice out of order they run out.
@@ -31,22 +32,20 @@ fn unite_trees<K: KeyKind, V: Joining>(
         from: other,
     };
     let mut waiting = Stack::new(job);
-    let mut turns = start.capacity;
-    while turns > 0 {
-        turns -= 1;
+    for _ in 0..start.capacity {
         let (after, left) = step(nodes, account, job)?;
         account = after;
-        match left {
+        job = match left {
             Step::Done => match waiting.pop() {
                 None => return Ok(account),
-                Some(next) => job = next,
+                Some(next) => next,
             },
-            Step::Next(next) => job = next,
+            Step::Next(next) => next,
             Step::Both(next, later) => {
                 waiting.push(later)?;
-                job = next;
+                next
             }
-        }
+        };
     }
     Err(OutOfOrder)
 }
@@ -61,17 +60,15 @@ pub fn unite<K: KeyKind, V: Joining>(
 ) -> Result<(Option<u16>, Account), InsertFault>
     ensures joins_two_maps { Unites (K.KeyKind) V.Joining.joined nodes.old nodes.new account root other result }
 {
-    match root {
-        None => Ok((other, account)),
-        Some(top) => match other {
-            None => Ok((root, account)),
-            Some(second) => {
-                if account.free < NODES_OF_A_FORK {
-                    return Err(InsertFault::TooFewNodes);
-                }
-                let after = unite_trees(nodes, account, top, second)?;
-                Ok((root, after))
-            }
-        },
+    let Some(top) = root else {
+        return Ok((other, account));
+    };
+    let Some(second) = other else {
+        return Ok((root, account));
+    };
+    if account.free < NODES_OF_A_UNION {
+        return Err(InsertFault::TooFewNodes);
     }
+    let after = unite_trees(nodes, account, top, second)?;
+    Ok((root, after))
 }

@@ -1,7 +1,6 @@
 // What the steps of a union write.
-ghost use Rattle.std.specs.Prelude.{◌≡◌, ℕ, List, ◌∷◌, length, if◌then◌else◌, MatchResult, ◌≢◌};
+ghost use Rattle.std.specs.Prelude.{ℕ, List, ◌∷◌, length, MatchResult, ◌≢◌};
 ghost use Rattle.pool.specs.Slice.{Chain};
-ghost use Rattle.pool.specs.declared.node.Node.TheVariants.{Branch};
 ghost use Rattle.unions.specs.Steps.{Leveled, Parted, Sided, Swapped, Unbranched, Unleveled};
 
 use crate::job::Job;
@@ -10,27 +9,7 @@ use keys::KeyKind;
 use pool::inner::{release, take_free, write_node};
 use pool::{Account, Node, OutOfOrder};
 use records::Joining;
-
-// A branch with `on` on the side that `side` names, and `off` on the other.
-fn branch_of<K: Copy, V: Copy>(place: u8, key: K, side: bool, on: u16, off: u16) -> Node<K, V>
-    ensures on_its_side { result ≡ Branch place key (if side then off else on) (if side then on else off) }
-{
-    if side {
-        Node::Branch {
-            place,
-            key,
-            zero: off,
-            one: on,
-        }
-    } else {
-        Node::Branch {
-            place,
-            key,
-            zero: on,
-            one: off,
-        }
-    }
-}
+use walks::inner::{Sides, branch_over};
 
 /// The trees of a job part at `place`: a branch there holds both, and what stood at the first's node, whose key is
 /// `key`, moves to a free one.
@@ -45,7 +24,11 @@ pub fn part<K: KeyKind, V: Copy>(
     ensures parted_or_none_free { MatchResult result (λ a. Parted (K.KeyKind) nodes.old nodes.new account job old place key a) (λ _. ((i : ℕ) (is : List ℕ) → Chain nodes.old account.head (i ∷ is) → length (i ∷ is) ≢ account.free)) }
 {
     let (moved, after) = take_free(nodes, account)?;
-    let fork = branch_of(place, key, key.bit_at(place), moved, job.from);
+    let sides = Sides {
+        near: moved,
+        far: job.from,
+    };
+    let fork = branch_over(place, key, key.bit_at(place), sides);
     write_node(nodes, moved, old);
     write_node(nodes, job.into, fork);
     Ok(after)
@@ -62,9 +45,9 @@ pub fn side_job<K: KeyKind, V: Copy>(node: Node<K, V>, key: K, job: Job) -> Resu
             one,
             ..
         } => {
-            let into = if key.bit_at(place) { one } else { zero };
+            let sides = Sides::by(key.bit_at(place), zero, one);
             Ok(Job {
-                into,
+                into: sides.near,
                 from: job.from,
             })
         }
@@ -90,17 +73,17 @@ pub fn swap_over<K: KeyKind, V: Copy>(
             zero,
             one,
         } => {
-            let side = key.bit_at(place);
-            let (stays, goes) = if side { (zero, one) } else { (one, zero) };
+            let bit = key.bit_at(place);
+            let sides = Sides::by(bit, zero, one);
+            let sides_now = Sides {
+                near: job.from,
+                far: sides.far,
+            };
             write_node(nodes, job.from, old);
-            write_node(
-                nodes,
-                job.into,
-                branch_of(place, own, side, job.from, stays),
-            );
+            write_node(nodes, job.into, branch_over(place, own, bit, sides_now));
             Ok(Job {
                 into: job.from,
-                from: goes,
+                from: sides.near,
             })
         }
         _ => Err(OutOfOrder),
@@ -118,42 +101,39 @@ pub fn level<K: KeyKind, V: Joining>(
 ) -> Result<(Account, Step), OutOfOrder>
     ensures leveled_or_not_alike { MatchResult result (λ o. Leveled V.Joining.joined nodes.old nodes.new account job first second o.0 o.1) (λ _. Unleveled nodes.old account job first second) }
 {
-    match first {
-        Node::Free { .. } => Err(OutOfOrder),
-        Node::Branch { zero, one, .. } => match second {
+    match (first, second) {
+        (
+            Node::Branch { zero, one, .. },
             Node::Branch {
                 zero: other_zero,
                 one: other_one,
                 ..
-            } => {
-                let after = release(nodes, account, job.from)?;
-                let on_zero = Job {
-                    into: zero,
-                    from: other_zero,
-                };
-                let on_one = Job {
-                    into: one,
-                    from: other_one,
-                };
-                Ok((after, Step::Both(on_zero, on_one)))
-            }
-            _ => Err(OutOfOrder),
-        },
-        Node::Leaf { key, record } => match second {
-            Node::Leaf { record: other, .. } => {
-                let joined = record.join(other);
-                write_node(
-                    nodes,
-                    job.into,
-                    Node::Leaf {
-                        key,
-                        record: joined,
-                    },
-                );
-                let after = release(nodes, account, job.from)?;
-                Ok((after, Step::Done))
-            }
-            _ => Err(OutOfOrder),
-        },
+            },
+        ) => {
+            let after = release(nodes, account, job.from)?;
+            let on_zero = Job {
+                into: zero,
+                from: other_zero,
+            };
+            let on_one = Job {
+                into: one,
+                from: other_one,
+            };
+            Ok((after, Step::Both(on_zero, on_one)))
+        }
+        (Node::Leaf { key, record }, Node::Leaf { record: other, .. }) => {
+            let joined = record.join(other);
+            write_node(
+                nodes,
+                job.into,
+                Node::Leaf {
+                    key,
+                    record: joined,
+                },
+            );
+            let after = release(nodes, account, job.from)?;
+            Ok((after, Step::Done))
+        }
+        _ => Err(OutOfOrder),
     }
 }

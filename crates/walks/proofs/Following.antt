@@ -21,36 +21,6 @@ or_stays : {A : Type 0} (o back : Option A) (a : A) → option_or (option_or o (
 or_stays None back a = refl
 or_stays (Some b) back a = refl
 
-module _ {K V : Type 0} (κ : KeyModel K) (ns : List (Node K V)) where
-  -- a tree at `at` that begins with the first entry of t
-  pub record Begins (t : Tree K V) (least at : ℕ) : Type 0 where
-    pub rest : Tree K V
-    pub grows : Grows κ ns least at rest
-    pub same : first_entry t ≡ first_entry rest
-
-  -- the walk to the first entry of the tree at `top` may go on at `at`
-  abbrev pub Leftward : ℕ → ℕ → ℕ → Type 0
-  Leftward top least at = (t : Tree K V) → Grows κ ns 0 top t → Begins t least at
-
-  pub leftward_begins : (top : ℕ) → Leftward top 0 top
-  leftward_begins top t h = record { rest = t; grows = h; same = refl }
-
-  module _ (top least at : ℕ) (leftward : Leftward top least at) where
-    pub leftward_none : NoneGrows κ ns least at → NoneGrows κ ns 0 top
-    leftward_none none t h = let n = leftward t h in none n.rest n.grows
-
-    pub leftward_leaf : {k : K} {v : V} {s : Step K V} → Stepped ns least at s → s ≡ Leaf k v → (t : Tree K V) → Grows κ ns 0 top t → (k, v) ≡ first_entry t
-    leftward_leaf {k} {v} a is t h =
-        let n = leftward t h in
-        grown_leaf κ ns least at (λ (u : Tree K V). (k, v) ≡ first_entry u) a is refl n.rest n.grows ∙ sym n.same
-
-    pub leftward_zero : {p : ℕ} {k : K} {left right : ℕ} {s : Step K V} → Stepped ns least at s → s ≡ Branch p k left right → Leftward top (p + 1) left
-    leftward_zero {p} {k} {left} {right} a is t h =
-        let n = leftward t h in
-        grown_branch κ ns least at (λ (u : Tree K V). first_entry t ≡ first_entry u → Begins t (p + 1) left) a is
-        (λ l r hl hr o same. record { rest = l; grows = hl; same = same })
-        n.rest n.grows n.same
-
 module _ {K V : Type 0} (κ : KeyModel K) (ns : List (Node K V)) (bound : K) where
   -- a tree at `at` and a map at `later` that have, one after the other, what t has after the bound
   pub record SplitOff (t : Tree K V) (least at : ℕ) (later : Option ℕ) : Type 0 where

@@ -1,3 +1,3 @@
 pub mod Growing
-pub mod Leading
+pub mod Descending
 pub mod Following

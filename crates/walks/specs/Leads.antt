@@ -1,9 +1,9 @@
 -- Where walks down a tree lead: what an answer must be for every tree in order at an index.
-use Rattle.std.specs.Prelude.{◌≡◌, ℕ, ◌≤◌, List, [], ◌∷◌, Some, Ok, Option, Result, MatchResult}
+use Rattle.std.specs.Prelude.{◌≡◌, ℕ, ◌≤◌, List, Some, Ok, Option, Result}
 use Rattle.keys.specs.Model.{KeyModel}
 use Rattle.trees.specs.Tree.{Tree, root, entries, first_entry}
 use Rattle.trees.specs.Order.{Ordered}
-use Rattle.trees.specs.Find.{lookup, first_after}
+use Rattle.trees.specs.Find.{first_after}
 use Rattle.pool.specs.Slice.{At, Stands}
 use Rattle.pool.specs.declared.node.Node.{Node}
 use Rattle.pool.specs.declared.node.Node.TheVariants as node
@@ -27,10 +27,6 @@ module _ {K V : Type 0} (κ : KeyModel K) (ns : List (Node K V)) where
   -- no tree in order begins there
   abbrev pub NoneGrows : ℕ → ℕ → Type 0
   NoneGrows least at = (t : Tree K V) → Grows least at t → ⊥
-
-  -- the entry that r answers finds at the key what the tree at `top` finds there
-  abbrev pub FindsAlike : K → ℕ → Result (K × V) OutOfOrder → Type 0
-  FindsAlike key top r = (t : Tree K V) → Grows 0 top t → MatchResult r (λ e. lookup κ (entries t) key ≡ lookup κ (e ∷ []) key) (λ _. ⊥)
 
   -- r answers the first entry of the tree at `top`
   abbrev pub FindsFirst : ℕ → Result (K × V) OutOfOrder → Type 0

@@ -1,2 +1,3 @@
 pub mod Leads
+pub mod Landings
 pub mod Turns

@@ -2,8 +2,12 @@
 
 #![tactic(auto)]
 
+mod descent;
+pub mod inner;
 mod lookup;
 mod order;
+mod sides;
+mod splitting;
 mod step;
 mod turn;
 

@@ -4,6 +4,7 @@ ghost use Rattle.trees.specs.Find.{first_after};
 ghost use Rattle.pool.specs.Walks.{Rooted};
 ghost use Rattle.walks.specs.Leads.{FindsFirst, FindsAfter};
 
+use crate::descent::descend;
 use crate::step::{Step, step_at};
 use crate::turn::{Turn, turn_at};
 use keys::{KeyKind, comes_before};
@@ -13,18 +14,8 @@ use pool::{Node, OutOfOrder};
 fn leftmost<K: KeyKind, V: Copy>(nodes: &[Node<K, V>], top: u16) -> Result<(K, V), OutOfOrder>
     ensures first_entry { FindsFirst (K.KeyKind) nodes.now top result }
 {
-    let mut at = top;
-    let mut least: u16 = 0;
-    loop {
-        let step = step_at(nodes, at, least)?;
-        match step {
-            Step::Leaf { key, record } => return Ok((key, record)),
-            Step::Branch { place, zero, .. } => {
-                least = place as u16 + 1;
-                at = zero;
-            }
-        }
-    }
+    let landing = descend(nodes, top, |_| false)?;
+    Ok((landing.own, landing.held))
 }
 
 // The first entry of the map at `root`.
@@ -43,7 +34,7 @@ fn first_of<K: KeyKind, V: Copy>(
 
 // Where a walk goes on below a branch whose prefix the bound shares, and where the entries begin that come after
 // whatever it may find there.
-fn descend(to_one: bool, zero: u16, one: u16, later: Option<u16>) -> (u16, Option<u16>)
+fn go_along(to_one: bool, zero: u16, one: u16, later: Option<u16>) -> (u16, Option<u16>)
     ensures side_one_is_later { result ≡ cond to_one (one, later) (zero, Some one) }
 {
     if to_one {
@@ -83,7 +74,7 @@ fn entry_after<K: KeyKind, V: Copy>(
                 Turn::After => return first_of(nodes, Some(zero)),
                 Turn::Before => return first_of(nodes, later),
                 Turn::Along { one: to_one } => {
-                    let (side, rest) = descend(to_one, zero, one, later);
+                    let (side, rest) = go_along(to_one, zero, one, later);
                     least = place as u16 + 1;
                     at = side;
                     later = rest;

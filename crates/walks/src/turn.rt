@@ -1,6 +1,7 @@
 ghost use Rattle.walks.specs.Turns.{Turns};
 
-use keys::{KeyKind, first_difference};
+use crate::splitting::split_before;
+use keys::KeyKind;
 
 /// How a bound stands to all that is below a branch.
 #[derive(Clone, Copy)]
@@ -17,15 +18,11 @@ pub enum Turn {
 pub fn turn_at<K: KeyKind>(bound: K, prefix: K, place: u8) -> Turn
     ensures by_the_first_difference { Turns (K.KeyKind) bound prefix place result }
 {
-    if let Some(split) = first_difference(bound, prefix) {
-        if split < place {
-            if bound.bit_at(split) {
-                return Turn::Before;
-            }
-            return Turn::After;
-        }
-    }
-    Turn::Along {
-        one: bound.bit_at(place),
+    match split_before(bound, prefix, place) {
+        Some(split) if bound.bit_at(split) => Turn::Before,
+        Some(_) => Turn::After,
+        None => Turn::Along {
+            one: bound.bit_at(place),
+        },
     }
 }

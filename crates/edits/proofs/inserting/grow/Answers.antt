@@ -1,5 +1,5 @@
-use Rattle.std.proofs.Common.{◌≡◌, ℕ, subst, arith}
-use Rattle.edits.specs.WalkEnds.{SeatedIfAny}
+use Rattle.std.proofs.Common.{subst}
+use Rattle.edits.specs.Seats.{SeatedIfAny}
 use Rattle.edits.specs.declared.seat.Seat.{Seat}
 use Rattle.edits.proofs.Updating.{inserted_join}
 use Rattle.edits.proofs.inserting.grow.Goals as goal
@@ -10,7 +10,7 @@ returns-in-Taken g c = record {
       (subst (λ (s : Seat g.row.K.Denot g.row.V.Denot). SeatedIfAny g.K.KeyKind c.args.nodes.now c.args.key s map) c.in-Taken.is
       (c.in_ok-seat.ensures.where_the_key_belongs map rooted))
       c.join_leaf.ensures.joined_there;
-  too_few_changes_nothing = λ e. absurd (let z : ◌≡◌ {A = ℕ} 0 1 = cc in omega arith);
+  too_few_changes_nothing = λ e. absurd cc;
 }
 
 pub returns-in-Open : goal.returns-in-Open

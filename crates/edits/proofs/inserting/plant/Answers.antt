@@ -1,4 +1,4 @@
-use Rattle.std.proofs.Common.{◌≡◌, ℕ, refl, arith}
+use Rattle.std.proofs.Common.{refl, arith}
 use Rattle.edits.proofs.Writing.{one_node_free}
 use Rattle.edits.proofs.Updating.{inserted_first}
 use Rattle.edits.proofs.inserting.plant.Goals as goal
@@ -13,5 +13,5 @@ pub returns : goal.returns
 returns g c = record {
   adds_one_update = λ map chain rooted beside. inserted_first g.K.KeyKind g.V.Joining.joined _ _ _ _ _ _ _ map chain rooted beside
       c.in_ok-at.ensures.first_of_chain c.write_node.ensures.written;
-  too_few_changes_nothing = λ e. absurd (let z : ◌≡◌ {A = ℕ} 0 1 = cc in omega arith);
+  too_few_changes_nothing = λ e. absurd cc;
 }

@@ -1,8 +1,5 @@
-use Rattle.std.proofs.Common.{Ok, Err, Result, subst, MatchResult}
-use Rattle.std.proofs.lemmas.Result.{MatchResult-from_err}
+use Rattle.std.proofs.lemmas.Result.{MatchResult-from_err, MatchResult-weaker}
 use Rattle.keys.proofs.Laws.{key_laws}
-use Rattle.unions.specs.declared.meeting.Meeting.{Meeting}
-use Rattle.unions.specs.Meets.{Meets}
 use Rattle.unions.proofs.Stages.{first_vacant, second_vacant, none_free, step_apart, step_into, step_into_failed, step_under, step_under_failed, step_leveled, step_level_failed}
 use Rattle.unions.proofs.stepping.step.Goals as goal
 
@@ -29,7 +26,7 @@ returns-in_err-next-in-Into g c = record {
   does_its_part = λ rest turns end last. MatchResult-from_err c.from_residual-in_err-next-in-Into.result _ _ c.from_residual-in_err-next-in-Into.ensures.0
       (λ e. step_into_failed g.K.KeyKind g.V.Joining.joined _ _ _ rest turns end last _ _ _ _ _ _ c.in_ok-first.ensures.node_or_past_end c.in_ok-second.ensures.node_or_past_end
       c.in_ok-face.ensures.place_and_key c.in_ok-other.ensures.place_and_key
-      (subst (λ (m : Meeting). Meets g.K.KeyKind c.in_ok-face.face.place c.in_ok-face.face.key c.in_ok-other.other.place c.in_ok-other.other.key m) c.in-Into.is c.meet.ensures.by_prefix_and_place) c.in_err-next-in-Into.ensures.side_by_bit);
+      c.in-Into.ensures.by_prefix_and_place c.in_err-next-in-Into.ensures.side_by_bit);
 }
 
 pub returns-in_err-next-in-Under : goal.returns-in_err-next-in-Under
@@ -37,42 +34,38 @@ returns-in_err-next-in-Under g c = record {
   does_its_part = λ rest turns end last. MatchResult-from_err c.from_residual-in_err-next-in-Under.result _ _ c.from_residual-in_err-next-in-Under.ensures.0
       (λ e. step_under_failed g.K.KeyKind g.V.Joining.joined _ _ _ rest turns end last _ _ _ _ _ _ c.in_ok-first.ensures.node_or_past_end c.in_ok-second.ensures.node_or_past_end
       c.in_ok-face.ensures.place_and_key c.in_ok-other.ensures.place_and_key
-      (subst (λ (m : Meeting). Meets g.K.KeyKind c.in_ok-face.face.place c.in_ok-face.face.key c.in_ok-other.other.place c.in_ok-other.other.key m) c.in-Under.is c.meet.ensures.by_prefix_and_place) c.in_err-next-in-Under.ensures.swapped);
+      c.in-Under.ensures.by_prefix_and_place c.in_err-next-in-Under.ensures.swapped);
 }
 
 pub returns-in_ok-after-in-Apart : goal.returns-in_ok-after-in-Apart
 returns-in_ok-after-in-Apart g c = record {
   does_its_part = λ rest turns end last. step_apart g.K.KeyKind g.V.Joining.joined _ _ _ rest turns end last _ _ _ _ _ _ c.in_ok-first.ensures.node_or_past_end c.in_ok-second.ensures.node_or_past_end
       c.in_ok-face.ensures.place_and_key c.in_ok-other.ensures.place_and_key _ _ _
-      (subst (λ (m : Meeting). Meets g.K.KeyKind c.in_ok-face.face.place c.in_ok-face.face.key c.in_ok-other.other.place c.in_ok-other.other.key m) c.in-Apart.is c.meet.ensures.by_prefix_and_place) c.in_ok-after-in-Apart.ensures.parted_or_none_free;
+      c.in-Apart.ensures.by_prefix_and_place c.in_ok-after-in-Apart.ensures.parted_or_none_free;
 }
 
 pub returns-in_ok-next-in-Into : goal.returns-in_ok-next-in-Into
 returns-in_ok-next-in-Into g c = record {
   does_its_part = λ rest turns end last. step_into g.K.KeyKind g.V.Joining.joined _ _ _ rest turns end last _ _ _ _ _ _ _ c.in_ok-first.ensures.node_or_past_end c.in_ok-second.ensures.node_or_past_end
       c.in_ok-face.ensures.place_and_key c.in_ok-other.ensures.place_and_key
-      (subst (λ (m : Meeting). Meets g.K.KeyKind c.in_ok-face.face.place c.in_ok-face.face.key c.in_ok-other.other.place c.in_ok-other.other.key m) c.in-Into.is c.meet.ensures.by_prefix_and_place) c.in_ok-next-in-Into.ensures.side_by_bit;
+      c.in-Into.ensures.by_prefix_and_place c.in_ok-next-in-Into.ensures.side_by_bit;
 }
 
 pub returns-in_ok-next-in-Under : goal.returns-in_ok-next-in-Under
 returns-in_ok-next-in-Under g c = record {
   does_its_part = λ rest turns end last. step_under g.K.KeyKind g.V.Joining.joined _ _ _ rest turns end last _ _ _ _ _ _ _ _ c.in_ok-first.ensures.node_or_past_end c.in_ok-second.ensures.node_or_past_end
       c.in_ok-face.ensures.place_and_key c.in_ok-other.ensures.place_and_key
-      (subst (λ (m : Meeting). Meets g.K.KeyKind c.in_ok-face.face.place c.in_ok-face.face.key c.in_ok-other.other.place c.in_ok-other.other.key m) c.in-Under.is c.meet.ensures.by_prefix_and_place) c.in_ok-next-in-Under.ensures.swapped;
+      c.in-Under.ensures.by_prefix_and_place c.in_ok-next-in-Under.ensures.swapped;
 }
 
 pub returns-in-Level : goal.returns-in-Level
 returns-in-Level g c = record {
   does_its_part = λ rest turns end last.
       let law = key_laws g.K.KeyKind g.met.K.KeyKind.places_bounded.1 g.met.K.KeyKind.same_bits in
-      let meets = subst (λ (m : Meeting). Meets g.K.KeyKind c.in_ok-face.face.place c.in_ok-face.face.key c.in_ok-other.other.place c.in_ok-other.other.key m) c.in-Level.is c.meet.ensures.by_prefix_and_place in
-      leveled_cases _ _ _ _ c.level.result
+      let meets = c.in-Level.ensures.by_prefix_and_place in
+      MatchResult-weaker c.level.result c.level.ensures.leveled_or_not_alike
       (λ o leveled. step_leveled g.K.KeyKind g.V.Joining.joined _ _ _ rest turns end last law _ _ _ _ _ _ _ o.0 o.1 c.in_ok-first.ensures.node_or_past_end c.in_ok-second.ensures.node_or_past_end
       c.in_ok-face.ensures.place_and_key c.in_ok-other.ensures.place_and_key meets leveled)
       (λ e failed. step_level_failed g.K.KeyKind g.V.Joining.joined _ _ _ rest turns end last _ _ _ _ _ _ c.in_ok-first.ensures.node_or_past_end c.in_ok-second.ensures.node_or_past_end
-      c.in_ok-face.ensures.place_and_key c.in_ok-other.ensures.place_and_key law meets failed)
-      c.level.ensures.leveled_or_not_alike;
-} where
-  leveled_cases : {A E : Type 0} (P P' : A → Type 0) (Q Q' : E → Type 0) (r : Result A E) → ((a : A) → P a → P' a) → ((e : E) → Q e → Q' e) → MatchResult r P Q → MatchResult r P' Q'
-  leveled_cases P P' Q Q' (Ok a) f h x = f a x
-  leveled_cases P P' Q Q' (Err e) f h x = h e x
+      c.in_ok-face.ensures.place_and_key c.in_ok-other.ensures.place_and_key law meets failed);
+}

@@ -1,20 +1,24 @@
-use Rattle.std.proofs.Common.{◌≡◌, Ok, Option, sym, ap, ◌∙◌}
-use Rattle.trees.specs.Tree.{Tree, entries_if_any}
-use Rattle.trees.specs.Find.{lookup}
-use Rattle.walks.proofs.Growing.{rooted_grows}
+use Rattle.std.proofs.Common.{ℕ, Option, Ok, sym, ap, subst}
+use Rattle.pool.specs.Walks.{Rooted}
+use Rattle.walks.proofs.Descending.{lands_hit, lands_miss}
 use Rattle.walks.proofs.lookup.look.Goals as goal
 
-pub returns-in_err-found : goal.returns-in_err-found
-returns-in_err-found g c = record {
-  finds_the_record = rooted_grows g.K.KeyKind c.args.nodes.now
-      (λ (map : Option (Tree _ _)). c.from_residual.result ≡ Ok (lookup g.K.KeyKind (entries_if_any map) c.args.key))
-      c.in-Some.is (λ t h. absurd (c.in_err-found.ensures.only_leaf_for_the_key t h));
+pub returns-in_err-landing : goal.returns-in_err-landing
+returns-in_err-landing g c = record {
+  finds_the_record = λ map h.
+      absurd (c.in_err-landing.ensures.only_leaf_for_the_key map (subst (λ (r : Option ℕ). Rooted g.K.KeyKind c.args.nodes.now r map) c.in-Some.is h));
 }
 
-pub returns : goal.returns
-returns g c = record {
-  finds_the_record = rooted_grows g.K.KeyKind c.args.nodes.now
-      (λ (map : Option (Tree _ _)). Ok c.record_for.result ≡ Ok (lookup g.K.KeyKind (entries_if_any map) c.args.key))
-      c.in-Some.is
-      (λ t h. ap Ok (c.record_for.ensures.if_the_keys_are_one ∙ sym (c.in_ok-found.ensures.only_leaf_for_the_key t h)));
+pub returns-then-same_key : goal.returns-then-same_key
+returns-then-same_key g c = record {
+  finds_the_record = λ map h.
+      let lands = c.in_ok-landing.ensures.only_leaf_for_the_key map (subst (λ (r : Option ℕ). Rooted g.K.KeyKind c.args.nodes.now r map) c.in-Some.is h) in
+      ap Ok (sym (lands_hit g.K.KeyKind _ _ map lands (c.same_key.ensures.true_of_one_key c.if-same_key.true)));
+}
+
+pub returns-else-same_key : goal.returns-else-same_key
+returns-else-same_key g c = record {
+  finds_the_record = λ map h.
+      let lands = c.in_ok-landing.ensures.only_leaf_for_the_key map (subst (λ (r : Option ℕ). Rooted g.K.KeyKind c.args.nodes.now r map) c.in-Some.is h) in
+      ap Ok (sym (lands_miss g.K.KeyKind _ _ map lands (c.same_key.ensures.false_of_two c.if-same_key.false)));
 }

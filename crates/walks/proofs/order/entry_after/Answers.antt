@@ -37,5 +37,5 @@ returns-in-Before g c = record {
 
 pub loop-step-preserved : goal.loop-step-preserved
 loop-step-preserved g c =
-    onward_along g.K.KeyKind _ _ _ _ _ _ c.loop-step.invariant c.in-Along.to_one c.descend-side.result c.in_ok-step.ensures.node_or_no_tree c.in-Branch.is
-    c.in-Along.ensures.by_the_first_difference c.descend-side.ensures.side_one_is_later
+    onward_along g.K.KeyKind _ _ _ _ _ _ c.loop-step.invariant c.in-Along.to_one c.go_along-side.result c.in_ok-step.ensures.node_or_no_tree c.in-Branch.is
+    c.in-Along.ensures.by_the_first_difference c.go_along-side.ensures.side_one_is_later

@@ -1,4 +1,4 @@
-use Rattle.std.proofs.Common.{◌≡◌, ℕ, Some, None, Ok, Option, sym, ap, ◌∙◌, arith}
+use Rattle.std.proofs.Common.{◌≡◌, Some, None, Ok, Option, sym, ap, ◌∙◌}
 use Rattle.trees.specs.Tree.{Tree, entries_if_any}
 use Rattle.trees.specs.Find.{first_after}
 use Rattle.trees.proofs.Next.{first_after_no_bound}
@@ -10,7 +10,7 @@ returns-in_err-first g c = record {
   first_entry_if_any = rooted_grows g.K.KeyKind c.args.nodes.now
       (λ (map : Option (Tree _ _)). c.from_residual.result ≡ Ok (first_after g.K.KeyKind None (entries_if_any map)))
       c.in-Some.is
-      (λ t h. let e = c.in_err-first.ensures.first_entry t h in absurd (let z : ◌≡◌ {A = ℕ} 0 1 = cc e in omega arith));
+      (λ t h. let e = c.in_err-first.ensures.first_entry t h in absurd (cc e));
 }
 
 pub returns : goal.returns
