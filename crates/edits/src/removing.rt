@@ -34,7 +34,7 @@ fn shrink<K: KeyKind, V: Copy>(
 ) -> Result<Removal<V>, OutOfOrder>
     ensures drops_one_key { Removes (K.KeyKind) key nodes.old nodes.new account (Some top) result }
 {
-    let landing = leaf_towards(nodes, top, key)?;
+    let landing = leaf_towards(nodes, top, u16::from(K::PLACES), key)?;
     if !same_key(landing.own, key) {
         return Ok(Removal {
             held: None,

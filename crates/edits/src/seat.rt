@@ -36,7 +36,7 @@ pub fn seek<K: KeyKind, V: Copy>(
     let mut at = top;
     let mut least: u16 = 0;
     loop {
-        let step = step_at(nodes, at, least)?;
+        let step = step_at(nodes, at, least, u16::from(K::PLACES))?;
         match step {
             Step::Leaf {
                 key: own,

@@ -35,10 +35,11 @@ module _ {K V : Type 0} (κ : KeyModel K) (ns : List (Node K V)) (least at : ℕ
       holds l r (record { stands = sl; rooted = el; ordered = o.4 }) (record { stands = sr; rooted = er; ordered = o.5 }) o)
       t h.stands h.rooted h.ordered
 
-  pub none_before_least : {p : ℕ} {k : K} {left right : ℕ} {x : Node K V} → At ns at x → x ≡ Branch p k left right → p < least → NoneGrows κ ns least at
-  none_before_least {p} {k} {left} {right} a is early t h =
+  pub none_out_of_place : {p : ℕ} {k : K} {left right : ℕ} {x : Node K V} → At ns at x → x ≡ Branch p k left right
+      → (least ≤ p → p < κ.PLACES → ⊥) → NoneGrows κ ns least at
+  none_out_of_place {p} {k} {left} {right} a is out t h =
       Standing.only_branch ns at (λ (t : Tree K V). Ordered κ least t → ⊥) p k left right (subst (At ns at) is a)
-      (λ l r sl sr el er o. omega (arith, o.0)) t h.stands h.rooted h.ordered
+      (λ l r sl sr el er o. out o.0 o.1) t h.stands h.rooted h.ordered
 
 module _ {K V : Type 0} (κ : KeyModel K) (ns : List (Node K V)) where
   -- a map with a root is a tree in order there
