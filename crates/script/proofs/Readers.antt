@@ -27,6 +27,9 @@ value_of limit w ws = go (below limit (numeral 0 w))
     go None = refl
     go (Some n) = refl
 
+pub value_taken : (limit : ℕ) (ws : List (List ℕ)) (w : List ℕ) (rest : List (List ℕ)) (o : Option ℕ) → ws ≡ w ∷ rest → o ≡ plain (below limit (numeral 0 w)) → value limit ws ≡ given o rest
+value_taken limit ws w rest o e h = rw (e, h) (value_of limit w rest)
+
 pub value_none : (limit : ℕ) → value limit [] ≡ None
 unfolding value number
 value_none limit = refl

@@ -8,6 +8,7 @@ use keys::Word;
 use records::Lamp;
 use std::fmt;
 
+// Refusals and bad lines are variants and no `Err` beside it: each answer is a line that is printed.
 #[derive(Drop)]
 pub enum Answer {
     /// The call was carried out.

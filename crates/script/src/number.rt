@@ -8,10 +8,7 @@ pub(crate) fn spelled(word: &[u8]) -> Option<u32>
 {
     let mut number: u32 = 0;
     for byte in word {
-        if !byte.is_ascii_digit() {
-            return None;
-        }
-        let digit = u32::from(*byte - b'0');
+        let digit = char::from(*byte).to_digit(10)?;
         number = number.checked_mul(10)?.checked_add(digit)?;
     }
     Some(number)

@@ -1,30 +1,32 @@
-use Rattle.std.proofs.Common.{◌≡◌, ◌^◌, ◌+◌, ◌-◌, ◌*◌, get_or, drop, sym, ◌∙◌, arith}
+use Rattle.std.proofs.Common.{◌≡◌, ◌^◌, ◌+◌, ◌*◌, drop, sym, ◌∙◌, arith}
 use Rattle.script.specs.Numerals.{below}
 use Rattle.script.proofs.Digits.{numeral_more, numeral_other, numeral_past, below_fits, below_over}
 use Rattle.script.proofs.number.spelled.Goals as goal
 
-pub returns-then-not-is_ascii_digit : goal.returns-then-not-is_ascii_digit
+pub returns-in_err-digit : goal.returns-in_err-digit
 unfolding below
-returns-then-not-is_ascii_digit c =
-    let none = numeral_other c.loop-byte.number c.args.word.now c.loop-byte.byte-index c.loop-byte-test.true (sym c.if-not-is_ascii_digit.ensures.value) in
-    record { is_the_number = rw (sym c.loop-byte.invariant.0 ∙ none) }
+returns-in_err-digit c =
+    let none = numeral_other c.loop-byte.number c.args.word.now c.loop-byte.byte-index c.loop-byte-test.true (rw c.from.ensures at c.in_err-digit.ensures.cases) in
+    record { is_the_number = rw (c.from_residual.ensures, sym c.loop-byte.invariant.0 ∙ none) }
 
 pub returns-in_err-checked_mul : goal.returns-in_err-checked_mul
 returns-in_err-checked_mul c =
     let word = c.args.word.now in
     let i = c.loop-byte.byte-index in
     let n = c.loop-byte.number in
-    let more = numeral_more n word i c.loop-byte-test.true (sym c.if-not-is_ascii_digit.ensures.value) in
-    let over = below_over (2 ^ 32) (n * 10 + (get_or word i 0 - 48)) (drop (i + 1) word) (omega (arith, c.in_err-checked_mul.ensures)) in
-    record { is_the_number = rw (c.from_residual.ensures, sym c.loop-byte.invariant.0 ∙ more, over) }
+    let d = c.in_ok-digit.digit in
+    let more = numeral_more n word i d c.loop-byte-test.true (rw c.from.ensures at c.in_ok-digit.ensures.cases) (omega (arith, c.in_ok-digit.ensures.value)) in
+    let over = below_over (2 ^ 32) (n * 10 + d) (drop (i + 1) word) (omega (arith, c.in_err-checked_mul.ensures)) in
+    record { is_the_number = rw (c.from_residual-in_err-checked_mul.ensures, sym c.loop-byte.invariant.0 ∙ more, over) }
 
 pub returns-in_err-number : goal.returns-in_err-number
 returns-in_err-number c =
     let word = c.args.word.now in
     let i = c.loop-byte.byte-index in
     let n = c.loop-byte.number in
-    let more = numeral_more n word i c.loop-byte-test.true (sym c.if-not-is_ascii_digit.ensures.value) in
-    let over = below_over (2 ^ 32) (n * 10 + (get_or word i 0 - 48)) (drop (i + 1) word) (omega (arith, c.in_err-number.ensures, c.in_ok-checked_mul.ensures, c.from-digit.ensures)) in
+    let d = c.in_ok-digit.digit in
+    let more = numeral_more n word i d c.loop-byte-test.true (rw c.from.ensures at c.in_ok-digit.ensures.cases) (omega (arith, c.in_ok-digit.ensures.value)) in
+    let over = below_over (2 ^ 32) (n * 10 + d) (drop (i + 1) word) (omega (arith, c.in_err-number.ensures, c.in_ok-checked_mul.ensures)) in
     record { is_the_number = rw (c.from_residual-in_err-number.ensures, sym c.loop-byte.invariant.0 ∙ more, over) }
 
 pub loop-byte-preserved : goal.loop-byte-preserved
@@ -32,8 +34,9 @@ loop-byte-preserved c =
     let word = c.args.word.now in
     let i = c.loop-byte.byte-index in
     let n = c.loop-byte.number in
-    let more = numeral_more n word i c.loop-byte-test.true (sym c.if-not-is_ascii_digit.ensures.value) in
-    let same : c.in_ok-number.number ≡ n * 10 + (get_or word i 0 - 48) = omega (arith, c.in_ok-number.ensures, c.in_ok-checked_mul.ensures, c.from-digit.ensures) in
+    let d = c.in_ok-digit.digit in
+    let more = numeral_more n word i d c.loop-byte-test.true (rw c.from.ensures at c.in_ok-digit.ensures.cases) (omega (arith, c.in_ok-digit.ensures.value)) in
+    let same : c.in_ok-number.number ≡ n * 10 + d = omega (arith, c.in_ok-number.ensures, c.in_ok-checked_mul.ensures) in
     (rw same (sym more ∙ c.loop-byte.invariant.0), omega (arith, c.in_ok-number.ensures))
 
 pub returns : goal.returns
