@@ -17,9 +17,9 @@ const PLACES: [u8; 7] = [0, 28, 30, 31, 32, 64, 255];
 pub(crate) fn every_harm(heap: Global, book: &Book) -> anyhow::Result<Vec<Harm>> {
     let mut harms = Vec::new(heap);
     nodes(&mut harms)?;
-    for shelf in 0..2 {
-        roots(&mut harms, shelf, book.shelves[shelf as usize])?;
-        key_counts(&mut harms, shelf, book.shelves[shelf as usize])?;
+    for (shelf, sound) in (0..2).zip(&book.shelves) {
+        roots(&mut harms, shelf, *sound)?;
+        key_counts(&mut harms, shelf, *sound)?;
     }
     accounts(&mut harms, book.account.free)?;
     Ok(harms)
@@ -89,11 +89,10 @@ fn branches_of(harms: &mut Vec<Harm>, at: u16, place: u8) -> anyhow::Result<()> 
 
 /// Rows whose tree begins elsewhere.
 fn roots(harms: &mut Vec<Harm>, shelf: u8, sound: Shelf) -> anyhow::Result<()> {
-    for root in 0..=NODES {
-        row(harms, shelf, Some(root), sound.keys)?;
+    for root in (0..=NODES).chain([FAR]).map(Some).chain([None]) {
+        row(harms, shelf, root, sound.keys)?;
     }
-    row(harms, shelf, Some(FAR), sound.keys)?;
-    row(harms, shelf, None, sound.keys)
+    Ok(())
 }
 
 /// Rows with a wrong number of keys.
