@@ -7,7 +7,7 @@ use crate::removal::Removal;
 use keys::{KeyKind, same_key};
 use pool::inner::{node_at, release, write_node};
 use pool::{Account, Node, OutOfOrder};
-use walks::inner::{Parent, leaf_towards};
+use walks::inner::{Parent, Reach, leaf_towards};
 
 // Closes a branch up over a leaf: what stands at the leaf's sibling takes the branch's node, and the nodes of the
 // sibling and of the leaf are given back.
@@ -34,7 +34,7 @@ fn shrink<K: KeyKind, V: Copy>(
 ) -> Result<Removal<V>, OutOfOrder>
     ensures drops_one_key { Removes (K.KeyKind) key nodes.old nodes.new account (Some top) result }
 {
-    let landing = leaf_towards(nodes, top, u16::from(K::PLACES), key)?;
+    let landing = leaf_towards(nodes, top, Reach::OwnPlaces, key)?;
     if !same_key(landing.own, key) {
         return Ok(Removal {
             held: None,

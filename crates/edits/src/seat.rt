@@ -6,7 +6,7 @@ ghost use Rattle.edits.specs.Seats.{SeatedIfAny};
 
 use keys::{KeyKind, first_difference};
 use pool::{Node, OutOfOrder};
-use walks::inner::{Sides, Step, split_before, step_at};
+use walks::inner::{Reach, Sides, Step, split_before, step_at};
 
 /// Beside a node: a place before the node's own, at which a key splits from the node's keys.
 #[derive(Clone, Copy)]
@@ -36,7 +36,7 @@ pub fn seek<K: KeyKind, V: Copy>(
     let mut at = top;
     let mut least: u16 = 0;
     loop {
-        let step = step_at(nodes, at, least, u16::from(K::PLACES))?;
+        let step = step_at(nodes, at, least, Reach::OwnPlaces)?;
         match step {
             Step::Leaf {
                 key: own,

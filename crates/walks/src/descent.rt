@@ -1,11 +1,11 @@
-ghost use Rattle.std.specs.Prelude.{◌≡◌, ◌≤◌, ℕ, Bool, Some, None, Option, MatchResult};
+ghost use Rattle.std.specs.Prelude.{◌≡◌, ℕ, Bool, Some, None, Option, MatchResult};
 ghost use Rattle.trees.specs.Tree.{Tree};
 ghost use Rattle.pool.specs.Walks.{Rooted};
 ghost use Rattle.walks.specs.Leads.{Grows};
 ghost use Rattle.walks.specs.Landings.{landing, LandsIfAny};
 
 use crate::sides::Sides;
-use crate::step::{Step, step_at};
+use crate::step::{Reach, Step, step_at};
 use keys::KeyKind;
 use pool::{Node, OutOfOrder};
 
@@ -25,21 +25,21 @@ pub struct Landing<K, V> {
     pub parent: Option<Parent>,
 }
 
-/// The leaf of the tree at `top` to which `bit` leads, which names a side at each place before `limit`.
-pub fn descend<K: KeyKind, V: Copy, F: Fn(u8) -> bool>(
+/// The leaf of the tree at `top` to which `bit` leads, which names a side at each place.
+pub(crate) fn descend<K: KeyKind, V: Copy, F: Fn(u8) -> bool>(
     nodes: &[Node<K, V>],
     top: u16,
-    limit: u16,
+    reach: Reach,
     bit: F,
 ) -> Result<Landing<K, V>, OutOfOrder>
     requires names_sides { F.IsAlwaysCallable bit }
-    ensures where_the_bits_lead { K.KeyKind.PLACES ≤ limit → (goes : ℕ → Bool) → ((p : ℕ) (b : Bool) → F.post bit p b → b ≡ goes p) → (t : Tree K V) → Grows (K.KeyKind) nodes.now 0 top t → MatchResult result (λ d. d ≡ landing goes None t) (λ _. ⊥) }
+    ensures where_the_bits_lead { (goes : ℕ → Bool) → ((p : ℕ) (b : Bool) → F.post bit p b → b ≡ goes p) → (t : Tree K V) → Grows (K.KeyKind) nodes.now 0 top t → MatchResult result (λ d. d ≡ landing goes None t) (λ _. ⊥) }
 {
     let mut at = top;
     let mut least: u16 = 0;
     let mut parent = None;
     loop {
-        let step = step_at(nodes, at, least, limit)?;
+        let step = step_at(nodes, at, least, reach)?;
         match step {
             Step::Leaf {
                 key: own,
@@ -72,10 +72,10 @@ pub fn descend<K: KeyKind, V: Copy, F: Fn(u8) -> bool>(
 pub fn leaf_towards<K: KeyKind, V: Copy>(
     nodes: &[Node<K, V>],
     top: u16,
-    limit: u16,
+    reach: Reach,
     key: K,
 ) -> Result<Landing<K, V>, OutOfOrder>
-    ensures only_leaf_for_the_key { K.KeyKind.PLACES ≤ limit → (map : Option (Tree K V)) → Rooted (K.KeyKind) nodes.now (Some top) map → MatchResult result (λ d. LandsIfAny (K.KeyKind) key d map) (λ _. ⊥) }
+    ensures only_leaf_for_the_key { (map : Option (Tree K V)) → Rooted (K.KeyKind) nodes.now (Some top) map → MatchResult result (λ d. LandsIfAny (K.KeyKind) key d map) (λ _. ⊥) }
 {
-    descend(nodes, top, limit, |place| key.bit_at(place))
+    descend(nodes, top, reach, |place| key.bit_at(place))
 }

@@ -3,4 +3,4 @@
 pub use crate::descent::{Landing, Parent, leaf_towards};
 pub use crate::sides::{Sides, branch_over};
 pub use crate::splitting::split_before;
-pub use crate::step::{Step, step_at};
+pub use crate::step::{Reach, Step, step_at};

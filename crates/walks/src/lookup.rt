@@ -4,7 +4,7 @@ ghost use Rattle.trees.specs.Find.{lookup};
 ghost use Rattle.pool.specs.Walks.{Rooted};
 
 use crate::descent::leaf_towards;
-use crate::step::ANY_PLACE;
+use crate::step::Reach;
 use keys::{KeyKind, same_key};
 use pool::{Node, OutOfOrder};
 
@@ -19,7 +19,7 @@ pub fn look<K: KeyKind, V: Copy>(
     let Some(top) = root else {
         return Ok(None);
     };
-    let landing = leaf_towards(nodes, top, ANY_PLACE, key)?;
+    let landing = leaf_towards(nodes, top, Reach::AnyPlace, key)?;
     if same_key(landing.own, key) {
         Ok(Some(landing.held))
     } else {

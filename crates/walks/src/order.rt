@@ -5,7 +5,7 @@ ghost use Rattle.pool.specs.Walks.{Rooted};
 ghost use Rattle.walks.specs.Leads.{FindsFirst, FindsAfter};
 
 use crate::descent::descend;
-use crate::step::{ANY_PLACE, Step, step_at};
+use crate::step::{Reach, Step, step_at};
 use crate::turn::{Turn, turn_at};
 use keys::{KeyKind, comes_before};
 use pool::{Node, OutOfOrder};
@@ -14,7 +14,7 @@ use pool::{Node, OutOfOrder};
 fn leftmost<K: KeyKind, V: Copy>(nodes: &[Node<K, V>], top: u16) -> Result<(K, V), OutOfOrder>
     ensures first_entry { FindsFirst (K.KeyKind) nodes.now top result }
 {
-    let landing = descend(nodes, top, ANY_PLACE, |_| false)?;
+    let landing = descend(nodes, top, Reach::AnyPlace, |_| false)?;
     Ok((landing.own, landing.held))
 }
 
@@ -57,7 +57,7 @@ fn entry_after<K: KeyKind, V: Copy>(
     // side 1 of the last branch at which the bound went to side 0: all of it comes after the bound
     let mut later: Option<u16> = None;
     loop {
-        let step = step_at(nodes, at, least, ANY_PLACE)?;
+        let step = step_at(nodes, at, least, Reach::AnyPlace)?;
         match step {
             Step::Leaf { key, record } => {
                 if comes_before(bound, key) {

@@ -1,4 +1,3 @@
-ghost use Rattle.std.specs.Prelude.{◌≤◌};
 ghost use Rattle.std.specs.Result.{MatchResult};
 ghost use Rattle.walks.specs.Leads.{NoneGrows, Stepped};
 
@@ -23,19 +22,24 @@ pub enum Step<K, V> {
     },
 }
 
-/// No limit to a walk's places: as far as they can be numbered.
-pub const ANY_PLACE: u16 = 256;
+/// How far down a walk goes on, in a tree whose places pass the last one of its kind.
+#[derive(Clone, Copy, PartialEq, Eq, Debug)]
+pub enum Reach {
+    /// As a question does: past the last place every bit is 0.
+    AnyPlace,
+    /// As a change does, which refuses such a branch.
+    OwnPlaces,
+}
 
 /// The node at which a walk stands. Places must grow on the way down, so that every walk ends, on any slice: a branch at
-/// a place before `least` is refused, and one at `limit` or past it. A change of a tree stops at its kind's last place; a
-/// question may go on, since past the last place every bit is 0.
+/// a place before `least` is refused, and one that is out of reach.
 pub fn step_at<K: KeyKind, V: Copy>(
     nodes: &[Node<K, V>],
     at: u16,
     least: u16,
-    limit: u16,
+    reach: Reach,
 ) -> Result<Step<K, V>, OutOfOrder>
-    ensures node_or_no_tree { MatchResult result (Stepped nodes.now least at) (λ _. K.KeyKind.PLACES ≤ limit → NoneGrows (K.KeyKind) nodes.now least at) }
+    ensures node_or_no_tree { MatchResult result (Stepped nodes.now least at) (λ _. NoneGrows (K.KeyKind) nodes.now least at) }
 {
     let node = node_at(nodes, at)?;
     match node {
@@ -47,7 +51,10 @@ pub fn step_at<K: KeyKind, V: Copy>(
             zero,
             one,
         } => {
-            if (place as u16) < least || place as u16 >= limit {
+            if (place as u16) < least {
+                return Err(OutOfOrder);
+            }
+            if matches!(reach, Reach::OwnPlaces) && place >= K::PLACES {
                 return Err(OutOfOrder);
             }
             Ok(Step::Branch {

@@ -3,7 +3,7 @@ use Rattle.walks.proofs.descent.descend.Goals as goal
 
 pub returns-in-Leaf : goal.returns-in-Leaf
 returns-in-Leaf g c = record {
-  where_the_bits_lead = λ all goes named. onward_leaf g.K.KeyKind _ goes _ _ _ _ (c.loop-bit.invariant goes named)
+  where_the_bits_lead = λ goes named. onward_leaf g.K.KeyKind _ goes _ _ _ _ (c.loop-bit.invariant goes named)
       c.in_ok-step.ensures.node_or_no_tree c.in-Leaf.is;
 }
 

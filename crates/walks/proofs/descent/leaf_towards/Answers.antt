@@ -9,8 +9,8 @@ pub returns : goal.returns
 returns g c =
     let law = key_laws g.K.KeyKind g.met.K.KeyKind.places_bounded.1 g.met.K.KeyKind.same_bits in
     record {
-      only_leaf_for_the_key = λ all. rooted_grows g.K.KeyKind c.args.nodes.now
+      only_leaf_for_the_key = rooted_grows g.K.KeyKind c.args.nodes.now
           (λ map. MatchResult c.descend.result (λ d. LandsIfAny g.K.KeyKind c.args.key d map) (λ _. ⊥)) refl
           (λ t h. landed_lands g.K.KeyKind c.args.key law t h.ordered c.descend.result
-          (c.descend.ensures.where_the_bits_lead all (g.K.KeyKind.bit c.args.key) (λ p b e. search rules) t h));
+          (c.descend.ensures.where_the_bits_lead (g.K.KeyKind.bit c.args.key) (λ p b e. search rules) t h));
     }

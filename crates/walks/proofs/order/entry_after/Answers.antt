@@ -1,4 +1,4 @@
-use Rattle.std.proofs.Common.{◌≤◌, arith, sym, ltb-false, ltb-true}
+use Rattle.std.proofs.Common.{sym, ltb-false, ltb-true}
 use Rattle.walks.proofs.Following.{onward_begins, onward_none, leaf_nothing, branch_nothing, falls_back, leaf_after, branch_after, onward_along}
 use Rattle.walks.proofs.order.entry_after.Goals as goal
 
@@ -7,10 +7,8 @@ loop-step-init g c = onward_begins g.K.KeyKind _ _ _
 
 pub returns-in_err-step : goal.returns-in_err-step
 returns-in_err-step g c = record {
-  first_entry_after = λ t h.
-      let all : g.K.KeyKind.PLACES ≤ 256 = omega (arith, g.met.K.KeyKind.places_bounded.1) in
-      absurd (onward_none g.K.KeyKind _ _ _ _ _ _ c.loop-step.invariant
-      (c.in_err-step.ensures.node_or_no_tree all) t h);
+  first_entry_after = λ t h. absurd (onward_none g.K.KeyKind _ _ _ _ _ _ c.loop-step.invariant
+      c.in_err-step.ensures.node_or_no_tree t h);
 }
 
 pub returns-then-comes_before : goal.returns-then-comes_before
