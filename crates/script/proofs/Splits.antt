@@ -1,7 +1,8 @@
 -- Blanks before a word, and the word that a text begins with.
-use Rattle.std.proofs.Common.{◌≡◌, ℕ, suc, ◌+◌, ◌-◌, ◌<◌, ◌≤◌, Bool, true, false, not, cond, ◌&&◌, eqb, ltb, List, [], ◌∷◌, length, get_or, take, drop, Some, None, Option, MatchOption, unwrap_or, sym, refl, ap, ◌∙◌, arith}
+use Rattle.std.proofs.Common.{◌≡◌, ℕ, suc, ◌+◌, ◌-◌, ◌<◌, ◌≤◌, Bool, true, false, not, cond, eqb, ltb, List, [], ◌∷◌, length, get_or, take, drop, Some, None, Option, MatchOption, unwrap_or, sym, refl, ap, ◌∙◌, arith}
 use Rattle.std.specs.Borrow.{Bor}
 use Rattle.std.specs.Cmp.Lexicographic.{pointwise}
+use Rattle.std.proofs.Math.Bool.{and-true}
 use Rattle.std.proofs.Math.ListN.{drop_of_length-le}
 use Rattle.std.proofs.Math.Seq.{drop-cons}
 use Rattle.std.specs.List.{position_or_len}
@@ -67,12 +68,8 @@ last_byte (b ∷ bs) =
     let past : length line ≤ suc k = omega arith in
     rw (drop-cons line k 0 here) (alone (get_or line k 0) (drop (suc k) line) (drop_of_length-le line past))
   where
-    same : (t : Bool) → (t && true) ≡ t
-    same true = refl
-    same false = refl
-
     alone : (x : ℕ) (rest : List ℕ) → rest ≡ [] → pointwise eqb (x ∷ rest) (13 ∷ []) ≡ eqb x 13
-    alone x rest e = rw e (same (eqb x 13))
+    alone x rest e = rw e (and-true (eqb x 13))
 
 -- what is left of a line where its ending was taken off
 pub returned : (line : Bor (List ℕ)) (r : Option (Bor (List ℕ))) → MatchOption r (pointwise eqb (drop (length line.now - 1) line.now) (13 ∷ []) ≡ false) (λ x. (pointwise eqb (drop (length line.now - 1) line.now) (13 ∷ []) ≡ true) × (x.now ≡ take (length line.now - 1) line.now) × (length x.now + 1 ≡ length line.now)) → (unwrap_or r line).now ≡ unreturned line.now
