@@ -9,6 +9,7 @@ use script::Answer;
 
 /// What comes of a call on the pool, as the script has it. A number is of nodes where the free ones were asked for, and
 /// of keys elsewhere.
+// Not `From`: the call is wanted too, and neither type is this crate's own.
 pub(crate) fn spoken(call: PoolCall<Word, Lamp>, reply: Reply<Word, Lamp>) -> Answer
     ensures says_the_answer { result ≡ spoken call reply }
 {

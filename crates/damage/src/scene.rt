@@ -14,6 +14,7 @@ const MOST: usize = 17;
 pub(crate) struct Scene<'a> {
     nodes: &'a [Node<Word, Mark>],
     book: Book,
+    // not the nodes' own: the calls may be given a slice of another length
     length: usize,
     earlier: &'a [Deed],
 }

@@ -16,6 +16,8 @@ pub fn first_difference_decides_order<K: KeyKind>()
 {}
 
 /// Whether two keys are one.
+// No `Eq` or `Ord` of the kind's own, here or below: that bound would ask more of makers, and a derived order need not be
+// that of the numbers.
 pub fn same_key<K: KeyKind>(a: K, b: K) -> bool
     ensures true_of_one_key { result ≡ true → a ≡ b }
     ensures false_of_two { result ≡ false → a ≢ b }

@@ -24,6 +24,7 @@ pub trait KeyKind: Copy {
         ensures is_bit { result ≡ bit self place };
 
     /// The key that has this number, or `None` exactly where no key has it.
+    // Not `TryFrom`: its error would have nothing to say, and a kind would owe one trait more.
     fn from_number(n: u64) -> Option<Self>
         ensures only_key_of_that_number { MatchOption result ((k : Self) → binary PLACES (bit k) ≢ n) (λ k. binary PLACES (bit k) ≡ n) };
 

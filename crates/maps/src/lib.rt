@@ -1,4 +1,6 @@
 //! The calls on one map of a pool, each proved against the plain machine.
+//!
+//! Nodes and book are two parameters of each: the caller owns both, and lends the nodes anew at each call.
 
 #![tactic(auto)]
 

@@ -43,6 +43,7 @@ impl KeyKind for Buoy {
         Some(Buoy { number: n as u32 })
     }
 
+    // As a word's, but for the field: no more than a line to share.
     fn number(self) -> u64 {
         bits_write_their_number();
         self.number.into()

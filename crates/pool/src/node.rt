@@ -1,4 +1,5 @@
 /// One node of a lent pool. Indices of nodes have 16 bits.
+// Trees by index in a slice, and no boxes: the library has no heap, its caller lends the memory.
 #[derive(Clone, Copy, PartialEq, Eq, Debug)]
 pub enum Node<K, V> {
     /// Not in use; the free node after this one.

@@ -8,6 +8,7 @@ use crate::shelf::Shelf;
 
 impl Account {
     /// An account from its numbers, or none where they break its bounds.
+    // Not `TryFrom` of three numbers, which in a tuple have no names.
     pub fn from_parts(capacity: u16, head: u16, free: u16) -> Option<Account>
         ensures within_its_bounds { AccountOf capacity head free result }
     {
@@ -49,6 +50,7 @@ fn keys_after(keys: u16, free: u16, free_now: u16) -> u16
 
 impl Book {
     /// A book from its account and its eight rows.
+    // Not `From` of the pair: its parts have names here.
     pub fn from_parts(account: Account, shelves: [Shelf; SHELVES]) -> Book
         ensures has_these_parts { (result.account ≡ account) × (result.shelves ≡ shelves) }
     {

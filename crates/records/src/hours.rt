@@ -37,8 +37,9 @@ impl RecordKind for Hours {
     }
 
     fn read(from: &[u8]) -> Option<Hours> {
-        let count = u32::read(from)?;
-        Some(Hours { count })
+        Some(Hours {
+            count: u32::read(from)?,
+        })
     }
 }
 

@@ -7,6 +7,8 @@ use crate::values::{Hours, Pair, Setting, Tags};
 /// The record of a lamp: its hours, its faults and its setting.
 pub type Lamp = Pair<Hours, Pair<Tags, Setting>>;
 
+// Two functions of one constant each, since each carries the theorem of its own number.
+
 /// The width of a lamp record in bytes.
 pub fn lamp_width() -> u8
     ensures fourteen_bytes { result ≡ 14 }

@@ -39,8 +39,9 @@ impl RecordKind for Tags {
     }
 
     fn read(from: &[u8]) -> Option<Tags> {
-        let bits = u16::read(from)?;
-        Some(Tags { bits })
+        Some(Tags {
+            bits: u16::read(from)?,
+        })
     }
 }
 

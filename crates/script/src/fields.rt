@@ -44,6 +44,7 @@ impl Words<'_> {
     }
 
     /// A key, or none where the line ends.
+    // Two options, since a word that is no key is not the same as no word: an enum of three would say no more.
     pub(crate) fn bound(&mut self) -> Option<Option<Word>>
         ensures reads_a_key_or_the_end { optional key (left self.old) ≡ given result (left self.new) }
     {

@@ -3,8 +3,8 @@ use Rattle.number_bytes.proofs.BigEndian.{length_big_endian}
 use Rattle.records.proofs.Encoding.{refuses}
 use Rattle.records.proofs.hours.HoursRecordKind.read.Goals as goal
 
-pub returns-in_err-count : goal.returns-in_err-count
-returns-in_err-count c = record {
+pub returns-in_err-read : goal.returns-in_err-read
+returns-in_err-read c = record {
   reads_what_is_written = refuses _ _ c.args.from.now _ c.from_residual.ensures
-      (λ h a e. c.in_err-count.ensures.reads_so_many (sym (ap length e) ∙ length_big_endian 4 a.count));
+      (λ h a e. c.in_err-read.ensures.reads_so_many (sym (ap length e) ∙ length_big_endian 4 a.count));
 }
