@@ -1,42 +1,68 @@
 #!/usr/bin/env python3
-"""Groups functions of src/ whose bodies have one shape: same tokens, once names, numbers and texts are disregarded."""
-import re,subprocess,sys,collections
-files=subprocess.run(['git','ls-files','crates/*.rt'],capture_output=True,text=True).stdout.split()
-files=[f for f in files if '/src/' in f]
-KW=set('match if else for in loop while return let mut fn impl pub struct enum as break true false Some None Ok Err self Self'.split())
-groups=collections.defaultdict(list)
-for f in files:
-    s=open(f).read()
-    s=re.sub(r'//[^\n]*','',s)
-    for m in re.finditer(r'\bfn (\w+)',s):
-        i=m.end(); depth=0; 
-        # find body: first '{' at line start level after contracts: body brace is a line that is exactly spaces+'{' or signature line ending with ' {'
-        rest=s[i:]
-        mm=re.search(r'\n\s*\{\n|[^\S\n]\{\n| \{\}\n|\n\{\}\n| \{ [^\n]*\}\n',rest)
-        semi=rest.find(';\n')
-        if not mm or (0<=semi<mm.start() and '{' not in rest[:semi]): continue
-        # skip over contract clauses: body begins at line '{' when clauses exist
-        sig=rest[:mm.start()]
-        if 'ensures' in rest[:mm.end()] or 'requires' in rest[:mm.end()]:
-            mm=re.search(r'\n\s*\{\n|\n\s*\{\}',rest)
-            if not mm: continue
-        j=rest.index('{',mm.start()); d=0
-        for k in range(j,len(rest)):
-            if rest[k]=='{': d+=1
-            elif rest[k]=='}':
-                d-=1
-                if d==0: break
-        body=rest[j:k+1]
-        toks=re.findall(r'"[^"]*"|b\'.\'|\w+|[^\s\w]',body)
-        norm=[]
-        for t in toks:
-            if t in KW or not re.match(r'[\w"]',t): norm.append(t)
-            elif re.match(r'\d',t): norm.append('0')
-            else: norm.append('x')
-        if len(norm)<int(sys.argv[1] if len(sys.argv)>1 else 12): continue
-        groups[' '.join(norm)].append((f,m.group(1)))
-n=0
-for k,v in groups.items():
-    if len(v)>1:
-        n+=1; print(f'{len(v)} x ({len(k.split())} tokens): '+', '.join(f'{a.split("/")[1]}::{b}' for a,b in v))
-print(n,'groups')
+"""Groups the functions of src/ whose bodies have one shape: the same tokens, once names, numbers and texts are disregarded.
+
+Run at the top of a checkout: `shapes.py LEAST`, where LEAST is the least number of tokens of a body (8 if left out)."""
+import collections
+import re
+import subprocess
+import sys
+
+KEPT = set("match if else for in loop while return let mut break true false Some None Ok Err self Self as".split())
+
+
+def sources():
+    listed = subprocess.run(["git", "ls-files", "crates/*.rt"], capture_output=True, text=True, check=True)
+    return [path for path in listed.stdout.split() if "/src/" in path]
+
+
+def bodies(text):
+    """The name and the body of each function that has one: a body begins at the first brace that ends a line, or, after
+    clauses, at a line that is only a brace."""
+    for found in re.finditer(r"\bfn (\w+)", text):
+        rest = text[found.end():]
+        head = re.search(r"\{\n|\{\}|;\n", rest)
+        if not head or head.group() == ";\n":
+            continue
+        if re.search(r"\n\s*(ensures|requires) ", rest[:head.end()]):
+            head = re.search(r"\n\s*(\{)\n|\n\s*(\{)\}", rest)
+            if not head:
+                continue
+        start = rest.index("{", head.start())
+        yield found.group(1), rest[start:end_of_braces(rest, start)]
+
+
+def end_of_braces(text, start):
+    depth = 0
+    for at in range(start, len(text)):
+        depth += {"{": 1, "}": -1}.get(text[at], 0)
+        if depth == 0:
+            return at + 1
+    return len(text)
+
+
+def shape(body):
+    def form(token):
+        if token in KEPT or not re.match(r'[\w"]', token):
+            return token
+        return "0" if token[0].isdigit() else "x"
+
+    return tuple(form(token) for token in re.findall(r"\"[^\"]*\"|b'.'|\w+|[^\s\w]", body))
+
+
+def main():
+    least = int(sys.argv[1]) if len(sys.argv) > 1 else 8
+    groups = collections.defaultdict(list)
+    for path in sources():
+        with open(path) as file:
+            text = re.sub(r"//[^\n]*", "", file.read())
+        for name, body in bodies(text):
+            found = shape(body)
+            if len(found) >= least:
+                groups[found].append(f"{path.split('/')[1]}::{name}")
+    twins = [(found, names) for found, names in groups.items() if len(names) > 1]
+    for found, names in twins:
+        print(f"{len(names)} of {len(found)} tokens: {', '.join(names)}")
+    print(f"{len(twins)} groups")
+
+
+main()

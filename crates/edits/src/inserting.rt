@@ -126,6 +126,7 @@ fn grow<K: KeyKind, V: Joining>(
 
 /// Puts a record at a key of the map at `root`: joined to the record that is there, or in a new leaf.
 /// Answers where the tree begins now, and the account.
+// A pair, which the caller takes apart at once; names for its parts would only stand there twice.
 pub fn insert<K: KeyKind, V: Joining>(
     nodes: &mut [Node<K, V>],
     account: Account,

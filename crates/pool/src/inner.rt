@@ -1,8 +1,8 @@
 //! Reading and writing single nodes, and the free chain: for the crates that walk trees, not for makers.
 //! Every function here is total: what good order forbids is answered, never assumed away.
 //!
-//! Nodes and account are two parameters, here and in the crates above: makers lend a slice for one call,
-//! and a struct that held it would owe a promise in each function that it still holds the same one.
+//! Nodes and account are two parameters, here and in the crates above: it is the project's rule that maps are worked on by
+//! functions over the lent slice. A struct that held it would owe in each function that it still holds the same one.
 
 ghost use Rattle.std.specs.Prelude.{◌≡◌, ℕ, ◌+◌, ◌<◌, ◌≤◌, ◌⊎◌, List, ◌∷◌, length, MatchResult, ◌≢◌, slice_set};
 ghost use Rattle.pool.specs.Slice.{At, Chain};
