@@ -21,7 +21,7 @@ fn gather(n: u32, top: u32) -> u16
     ensures is_every_second_bit { result ≡ every_second_bit n top }
 {
     let mut r: u16 = 0;
-    for i in 0..16 {
+    for i in 0..PLACES_OF_HALF as u32 {
         r = r * 2 + ((n >> (top - 2 * i)) % 2) as u16;
     }
     r

@@ -21,8 +21,7 @@ pub fn look<K: KeyKind, V: RecordKind>(
     ensures answers_as_every_machine_held { (join : V → V → V) → Asked (K.KeyKind) join nodes.now book.now (shelf ∷ []) (λ m. record_at (K.KeyKind) join (list_of m shelf) key) result }
 {
     let row = row_of(nodes, book, shelf)?;
-    let found = walks::look(nodes, row.root, key)?;
-    Ok(found)
+    Ok(walks::look(nodes, row.root, key)?)
 }
 
 /// The least key of a shelf after a bound, or the least of all, with its record.
@@ -35,8 +34,7 @@ pub fn next<K: KeyKind, V: RecordKind>(
     ensures answers_as_every_machine_held { (join : V → V → V) → Asked (K.KeyKind) join nodes.now book.now (shelf ∷ []) (λ m. next_of (K.KeyKind) join (list_of m shelf) bound) result }
 {
     let row = row_of(nodes, book, shelf)?;
-    let found = walks::next(nodes, row.root, bound)?;
-    Ok(found)
+    Ok(walks::next(nodes, row.root, bound)?)
 }
 
 // The book's numbers are those of every machine that it holds: a fact, no code.

@@ -30,9 +30,7 @@ pub trait FixedWidth<const N: usize>: Copy {
     fn read(bytes: &[u8]) -> Option<Self>
         ensures reads_so_many { ReadsNumber number N bytes.now result }
     {
-        let Ok(array) = <[u8; N]>::try_from(bytes) else {
-            return None;
-        };
+        let array = <[u8; N]>::try_from(bytes).ok()?;
         Some(Self::from_array(&array))
     }
 

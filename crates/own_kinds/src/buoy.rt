@@ -6,8 +6,6 @@ ghost use Rattle.own_kinds.specs.Same.{buoy_same};
 use crate::values::Buoy;
 use keys::{KeyKind, bits_write_their_number, number_bit};
 
-const BUOYS: u64 = 0x10_0000;
-
 /// Buoys as keys: 20 places, a buoy's bits are those of its number.
 impl KeyKind for Buoy {
     const CODE: u16 = 200;
@@ -37,7 +35,7 @@ impl KeyKind for Buoy {
 
     fn from_number(n: u64) -> Option<Buoy> {
         bits_write_their_number();
-        if n >= BUOYS {
+        if n >> Self::PLACES != 0 {
             return None;
         }
         Some(Buoy { number: n as u32 })

@@ -40,17 +40,16 @@ pub fn take_free<K: Copy, V: Copy>(
 ) -> Result<(u16, Account), OutOfOrder>
     ensures first_of_chain { MatchResult result (λ t. Took nodes.now account t.0 t.1) (λ _. ((i : ℕ) (is : List ℕ) → Chain nodes.now account.head (i ∷ is) → length (i ∷ is) ≢ account.free)) }
 {
-    if account.free == 0 {
-        return Err(OutOfOrder);
-    }
+    let free = account.free.checked_sub(1).ok_or(OutOfOrder)?;
     let at = account.head;
     let Node::Free { next } = node_at(nodes, at)? else {
         return Err(OutOfOrder);
     };
+    // No `..account`: its ghost field wants every field written.
     let after = Account {
         capacity: account.capacity,
         head: next,
-        free: account.free - 1,
+        free,
     };
     Ok((at, after))
 }

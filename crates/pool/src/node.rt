@@ -1,5 +1,6 @@
 /// One node of a lent pool. Indices of nodes have 16 bits.
-// Trees by index in a slice, and no boxes: the library has no heap, its caller lends the memory.
+// Trees by index in a slice, and no boxes: the library has no heap, its caller lends the memory. The fields of a branch
+// stand in the variant, so that anyone makes a node from its parts.
 #[derive(Clone, Copy, PartialEq, Eq, Debug)]
 pub enum Node<K, V> {
     /// Not in use; the free node after this one.

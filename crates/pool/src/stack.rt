@@ -10,7 +10,8 @@ const MOST: usize = 64;
 
 /// What a walk has still to do: at most 64 items, since a tree in order has at most 64 branches above one another. Contracts
 /// see the list of the items, the newest first.
-// An array with a height beside it, since the library has no heap: the memory of a stack is fixed.
+// An array with a height beside it: there is no heap, and a vector of fixed room from a further library would be one more
+// part to carry.
 #[derive(Drop)]
 pub struct Stack<T> {
     items: [T; MOST],
@@ -46,6 +47,7 @@ impl<T: Copy> Stack<T> {
     /// Puts an item on top; where there are 64 already, nothing changes.
     pub fn push(&mut self, item: T) -> Result<(), OutOfOrder>
         ensures on_top_or_full { MatchResult result (λ _. self.new ≡ item ∷ self.old) (λ _. (64 ≤ length self.old) × (self.new ≡ self.old)) }
+        ensures never_over_full { length self.new ≤ 64 }
     {
         tops_of_stacks::<T>();
         if self.height >= MOST {
@@ -62,10 +64,7 @@ impl<T: Copy> Stack<T> {
         ensures none_of_an_empty_one { result ≡ None → self.new ≡ [] }
     {
         tops_of_stacks::<T>();
-        if self.height == 0 {
-            return None;
-        }
-        self.height -= 1;
+        self.height = self.height.checked_sub(1)?;
         Some(self.items[self.height])
     }
 }

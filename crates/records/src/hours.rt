@@ -36,6 +36,7 @@ impl RecordKind for Hours {
         self.count.write(out);
     }
 
+    // As tags are read, but for the types: no more than a line to share.
     fn read(from: &[u8]) -> Option<Hours> {
         Some(Hours {
             count: u32::read(from)?,

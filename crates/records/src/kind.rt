@@ -10,6 +10,7 @@ pub trait RecordKind: Copy {
     const CODE: u16;
 
     /// How many bytes a record takes, or 65.
+    // A number and no `Option`, as makers know it: 65 is one of the widths that a kind may say.
     const WIDTH: u8;
 
     // The two constants again, as contracts name them: the check proves each equal to its constant.

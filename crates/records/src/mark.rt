@@ -30,7 +30,7 @@ impl RecordKind for Mark {
     fn write(self, _out: &mut [u8]) {}
 
     fn read(from: &[u8]) -> Option<Mark> {
-        if from.is_empty() { Some(Mark) } else { None }
+        from.is_empty().then_some(Mark)
     }
 }
 

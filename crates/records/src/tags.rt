@@ -54,6 +54,7 @@ impl Joining for Tags {
 
     ghost associative = { λ a b c. tags_same _ _ (sym (or_assoc a.bits b.bits c.bits)) };
 
+    // One operator on one field: no more than a line to share with another kind.
     fn join(self, other: Tags) -> Tags {
         Tags {
             bits: self.bits | other.bits,

@@ -46,6 +46,7 @@ impl Joining for Wide {
 
     ghost associative = { Prim.search rules };
 
+    // As tags join, on another type: no more than a line to share.
     fn join(self, other: Wide) -> Wide {
         Wide {
             on: self.on | other.on,
