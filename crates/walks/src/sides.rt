@@ -1,6 +1,7 @@
 ghost use Rattle.std.specs.Prelude.{◌≡◌, if◌then◌else◌};
 ghost use Rattle.pool.specs.declared.node.Node.TheVariants.{Branch};
 
+use keys::KeyKind;
 use pool::Node;
 
 /// The two sides of a branch, as one who goes by a bit sees them.
@@ -29,6 +30,14 @@ impl Sides {
                 far: one,
             }
         }
+    }
+
+    /// The sides of a branch at `place`, by the bit of `key` there.
+    pub fn towards<K: KeyKind>(key: K, place: u8, zero: u16, one: u16) -> Self
+        ensures near_by_bit { result.near ≡ (if K.KeyKind.bit key place then one else zero) }
+        ensures far_by_bit { result.far ≡ (if K.KeyKind.bit key place then zero else one) }
+    {
+        Self::by(key.bit_at(place), zero, one)
     }
 }
 
