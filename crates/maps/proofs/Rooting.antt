@@ -1,5 +1,5 @@
 -- What a walk from a row may assume, for every machine held.
-use Rattle.std.proofs.Common.{◌≡◌, ℕ, ◌<◌, List, get_or, None, Ok, Err, Result, sym, subst, arith}
+use Rattle.std.proofs.Common.{◌≡◌, ℕ, ◌<◌, List, get_or, None, Ok, Result, sym, subst}
 use Rattle.keys.specs.Model.{KeyModel, KeyLaws}
 use Rattle.pool.specs.declared.node.Node.{Node}
 use Rattle.pool.specs.declared.shelf.Shelf.{Shelf}
@@ -12,9 +12,6 @@ use Rattle.pool.proofs.After.{rooted_at}
 
 pub ok_same : {A E : Type 0} (a b : A) → ◌≡◌ {A = Result A E} (Ok a) (Ok b) → a ≡ b
 ok_same a b e = cc
-
-pub err_is_not_ok : {A E : Type 0} (a : A) (x : E) → ◌≡◌ {A = Result A E} (Err x) (Ok a) → ⊥
-err_is_not_ok a x e = let z : ◌≡◌ {A = ℕ} 0 1 = cc in omega arith
 
 module _ {K V : Type 0} (κ : KeyModel K) (law : KeyLaws κ) (join : V → V → V) (ns : List (Node K V)) (book : Book) (m : Machine K V) (h : Holds κ join ns book m) (s : ℕ) (l8 : s < 8) (row : Shelf) (is : row ≡ get_or book.shelves s empty_row) where
   pub rooted_row : Rooted κ ns row.root (get_or h.maps s None)

@@ -1,6 +1,5 @@
 -- A pool whose nodes are all free holds the empty machine; and a pool in good order holds the machine of its entries.
-use Rattle.std.proofs.Common.{◌≡◌, ℕ, zero, suc, ◌+◌, ◌<◌, ◌≤◌, Bool, true, false, cond, ltb, List, [], ◌∷◌, map, length, get_or, set, replicate, Some, None, Option, sym, refl, ap, ◌∙◌, subst, arith, length-set, get_or-set_other, get_or-set_same, ltb-false, ltb-true, le-ltb, lt-ltb, eqb-true}
-use native.Mathlib.Decide.{ℕ_discrete}
+use Rattle.std.proofs.Common.{◌≡◌, ℕ, zero, suc, ◌+◌, ◌<◌, ◌≤◌, Bool, true, false, cond, ltb, List, [], ◌∷◌, map, length, get_or, replicate, Some, None, Option, sym, refl, ap, ◌∙◌, arith, ltb-false, ltb-true, le-ltb, lt-ltb, eqb-true}
 use Rattle.keys.specs.Model.{KeyModel, number}
 use Rattle.trees.specs.Tree.{Tree, one, times, entries_if_any}
 use Rattle.trees.specs.Find.{same_key, lookup}
@@ -51,19 +50,6 @@ times_count_up j i (suc k) h = step (ltb i j) refl (times_count_up j (suc i) k) 
       let same : i ≡ j = omega (arith, ltb-false i j e) in
       let w : ◌≡◌ {A = ℕ} (cond (ltb j (i + suc k)) 1 0) 1 = ap (λ b. cond b 1 0) (lt-ltb j (i + suc k) (omega arith)) in
       omega (arith, one_same i j same, times_before j (suc i) k (omega arith), w)
-
--- one node more is linked
-pub linked_more : {K V : Type 0} (ns ns' : List (Node K V)) (i : ℕ) → i < length ns → ns' ≡ set ns i (Free (i + 1))
-    → ((j : ℕ) → j < i → At ns j (Free (j + 1))) → (j : ℕ) → j < i + 1 → At ns' j (Free (j + 1))
-linked_more {K} {V} ns ns' i l e before j h = elim (ℕ_discrete j i) [ yes same ↦ here same | no other ↦ there other ] where
-  here : j ≡ i → At ns' j (Free (j + 1))
-  here same = subst (λ (n : ℕ). At ns' n (Free (n + 1))) (sym same)
-      (subst (λ (xs : List (Node K V)). At xs i (Free (i + 1))) (sym e) (rw length-set l, get_or-set_same ns i (Free (i + 1)) (Free (i + 1)) l))
-
-  there : (j ≡ i → ⊥) → At ns' j (Free (j + 1))
-  there other =
-      let was = before j (omega (arith, h, other)) in
-      subst (λ (xs : List (Node K V)). At xs j (Free (j + 1))) (sym e) (rw length-set was.0, get_or-set_other ns i j (Free (i + 1)) (Free (j + 1)) other ∙ was.1)
 
 module _ {K V : Type 0} (κ : KeyModel K) (ns : List (Node K V)) (free : (j : ℕ) → j < length ns → At ns j (Free (j + 1))) where
   chain_up : (i k : ℕ) → i + k ≡ length ns → Chain ns i (count_up i k)

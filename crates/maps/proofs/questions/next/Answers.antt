@@ -18,7 +18,7 @@ returns g c =
         λ m h.
             let map = get_or h.maps c.args.shelf None in
             let rooted = rooted_row g.K.KeyKind law join _ _ m h c.args.shelf row.0 _ row.2 in
-            ok_same _ _ (c.in_ok-found.ensures.finds_the_next_entry map rooted)
+            ok_same _ _ (c.in_ok-next.ensures.finds_the_next_entry map rooted)
             ∙ next_told g.K.KeyKind law join c.args.bound (entries_if_any map) (list_of m c.args.shelf) (map_rises g.K.KeyKind map rooted.ordered) (h.found c.args.shelf row.0),
       );
     }
