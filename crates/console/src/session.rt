@@ -3,13 +3,14 @@ use crate::store::Store;
 use crate::task::Task;
 use crate::wording::spoken;
 use anyhow::anyhow;
+use pool::MOST_NODES;
 use runs::Call as PoolCall;
 use script::{Answer, BadLine, Call, parse};
 use std::io;
 use std::io::{BufRead, BufReader};
 
 /// A map of so many keys fills the largest pool.
-const MOST_KEYS: u16 = 2048;
+const MOST_KEYS: u16 = MOST_NODES / 2;
 
 /// Carries out a script to its end, and prints each answer before the next line is read.
 pub(crate) fn run(rt: &HostRuntime) -> anyhow::Result<()> {

@@ -20,13 +20,11 @@ impl Store {
     pub(crate) fn open(heap: Global, count: u32) -> Result<Result<Store, OpenRefusal>, AllocError>
         ensures opens_an_empty_pool { IfOk result (λ opened. Opened count opened) }
     {
-        // One node too many is refused as any number above it is, and takes little memory.
+        // One node too many is refused as any number above it is, and takes little memory. `as`, since Rust has no `From` of
+        // 32 bits for `usize`, and the way by 16 bits has one more conversion, which may fail.
         let count = count.min(u32::from(MOST_NODES) + 1) as usize;
         let mut nodes = vec![in heap; Node::Free { next: 0 }; count]?;
-        match open(nodes.as_mut_slice()) {
-            Ok(book) => Ok(Ok(Store { nodes, book })),
-            Err(refusal) => Ok(Err(refusal)),
-        }
+        Ok(open(nodes.as_mut_slice()).map(|book| Store { nodes, book }))
     }
 
     pub(crate) fn play(&mut self, call: &Call<Word, Lamp>) -> Reply<Word, Lamp>

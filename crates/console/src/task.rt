@@ -7,6 +7,7 @@ use records::Lamp;
 use runs::Call as PoolCall;
 use script::Call;
 
+// The way from `script::Call` to `runs::Call`, which are apart since the language rests on no pool.
 #[derive(Drop)]
 pub(crate) enum Task {
     /// Takes a new pool of so many nodes.

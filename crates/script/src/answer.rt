@@ -8,6 +8,7 @@ use keys::Word;
 use records::Lamp;
 use std::fmt;
 
+// Apart from `runs::Answer` as `Call` is from `runs::Call`: the language rests on no pool.
 // Refusals and bad lines are variants and no `Err` beside it: each answer is a line that is printed.
 #[derive(Drop)]
 pub enum Answer {

@@ -7,6 +7,7 @@ use keys::Word;
 use records::Lamp;
 use std::fmt;
 
+// Not made of `runs::Call`: the language rests on no pool, and in place of a type it would take over the crates below the console.
 #[derive(Drop)]
 pub enum Call {
     /// A pool of so many nodes, in which every map is empty.

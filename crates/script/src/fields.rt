@@ -1,7 +1,6 @@
 //! The fields of calls and answers, read and printed: the one place that knows how keys and
 //! records are made.
 ghost use Rattle.std.specs.Prelude.{◌≡◌, ◌^◌, Some};
-ghost use Rattle.script.specs.Cursor.{left};
 ghost use Rattle.script.specs.Readings.{given, optional, value, shelf, nodes, Converted};
 ghost use Rattle.script.specs.Values.{key, lamp, lamp_words};
 ghost use Rattle.script.specs.Printing.{spaced};
@@ -17,26 +16,26 @@ impl Words<'_> {
     pub(crate) fn number<T: TryFrom<u32>>(&mut self) -> Option<T>
     where
         T::Error: Drop,
-        ensures reads_a_number { Converted T.try_from_gives (value (2 ^ 32) (left self.old)) (given result (left self.new)) }
+        ensures reads_a_number { Converted T.try_from_gives (value (2 ^ 32) self.old) (given result self.new) }
     {
         T::try_from(spelled(self.next()?)?).ok()
     }
 
     // With `number` in place of `shelf` and `nodes`, which say how wide these fields are, twenty goals of `call` stay open.
     pub(crate) fn shelf(&mut self) -> Option<u8>
-        ensures reads_a_shelf { shelf (left self.old) ≡ given result (left self.new) }
+        ensures reads_a_shelf { shelf self.old ≡ given result self.new }
     {
         self.number()
     }
 
     pub(crate) fn nodes(&mut self) -> Option<u32>
-        ensures reads_nodes { nodes (left self.old) ≡ given result (left self.new) }
+        ensures reads_nodes { nodes self.old ≡ given result self.new }
     {
         self.number()
     }
 
     pub(crate) fn key(&mut self) -> Option<Word>
-        ensures reads_a_key { key (left self.old) ≡ given result (left self.new) }
+        ensures reads_a_key { key self.old ≡ given result self.new }
     {
         Some(Word {
             light: self.number()?,
@@ -46,7 +45,7 @@ impl Words<'_> {
     /// A key, or none where the line ends.
     // Two options, since a word that is no key is not the same as no word: an enum of three would say no more.
     pub(crate) fn bound(&mut self) -> Option<Option<Word>>
-        ensures reads_a_key_or_the_end { optional key (left self.old) ≡ given result (left self.new) }
+        ensures reads_a_key_or_the_end { optional key self.old ≡ given result self.new }
     {
         if self.is_empty() {
             Some(None)
@@ -56,7 +55,7 @@ impl Words<'_> {
     }
 
     pub(crate) fn record(&mut self) -> Option<Lamp>
-        ensures reads_a_record { lamp (left self.old) ≡ given result (left self.new) }
+        ensures reads_a_record { lamp self.old ≡ given result self.new }
     {
         Some(Pair {
             first: Hours {

@@ -1,6 +1,5 @@
 //! From a line of a script to what it says.
 ghost use Rattle.std.specs.Prelude.{◌≡◌};
-ghost use Rattle.script.specs.Cursor.{left};
 ghost use Rattle.script.specs.Forms.{form, said};
 ghost use Rattle.script.specs.Readings.{given};
 
@@ -12,7 +11,7 @@ use std::str;
 impl Words<'_> {
     /// The call of a name, with its fields.
     fn call(&mut self, name: &[u8]) -> Option<Call>
-        ensures reads_the_call { form name.now (left self.old) ≡ given result (left self.new) }
+        ensures reads_the_call { form name.now self.old ≡ given result self.new }
     {
         match str::from_utf8(name).ok()? {
             "open" => Some(Call::Open {

@@ -14,6 +14,7 @@ pub fn lines_say_their_calls()
 {}
 
 /// A call printed as its line, and the line read again: it says that call.
+// A result in a result: the outer one says whether there was memory for the line, the inner one what the line says.
 pub fn reread(heap: Global, call: Call) -> Result<Result<Option<Call>, BadLine>, AllocError>
     ensures says_the_call { IfOk result (λ read. read ≡ Ok (Some call)) }
 {

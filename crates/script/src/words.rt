@@ -1,19 +1,27 @@
 //! The words of a line, taken from its front one by one.
-ghost use Rattle.std.specs.Prelude.{◌≡◌, ◌<◌, false, length, slice_index};
+ghost use Rattle.std.specs.Prelude.{◌≡◌, ℕ, ◌<◌, false, List, length, slice_index};
 ghost use Rattle.std.specs.Iterator.{YieldsFirstRef, item_count};
-ghost use Rattle.script.specs.Cursor.{left, word_end};
+ghost use Rattle.script.specs.Cursor.{word_end};
 ghost use Rattle.script.specs.Readings.{ended};
 ghost use Rattle.script.specs.Splitting.{blank, unreturned, uncommented, words_in, words};
 
-/// What is left of a line.
+use std::marker::Model;
+
+/// What is left of a line. Contracts see the list of the words that are still to come.
 #[derive(Drop)]
 pub(crate) struct Words<'a> {
     rest: &'a [u8],
 }
 
+impl<'a> Model for Words<'a> {
+    ghost Value = { List (List ℕ) };
+
+    ghost view = { λ w. words_in w.rest.now };
+}
+
 impl<'a> Words<'a> {
     pub(crate) fn of(line: &'a [u8]) -> Words<'a>
-        ensures has_all_words { left result ≡ words line.now }
+        ensures has_all_words { result ≡ words line.now }
     {
         Words {
             rest: without_comment(without_return(line)),
@@ -21,7 +29,7 @@ impl<'a> Words<'a> {
     }
 
     pub(crate) fn is_empty(&self) -> bool
-        ensures tells_whether_none_is_left { result ≡ ended (left self.now) }
+        ensures tells_whether_none_is_left { result ≡ ended self.now }
     {
         without_blanks(self.rest).is_empty()
     }
@@ -31,9 +39,9 @@ impl<'a> Words<'a> {
 impl<'a> Iterator for Words<'a> {
     type Item = &'a [u8];
 
-    ghost next_gives = { YieldsFirstRef left };
+    ghost next_gives = { YieldsFirstRef (λ ws. ws) };
 
-    ghost remaining = { item_count left };
+    ghost remaining = { item_count (λ ws. ws) };
 
     fn next(&mut self) -> Option<&'a [u8]> {
         let text = without_blanks(self.rest);

@@ -1,5 +1,4 @@
 use Rattle.std.proofs.Common.{◌^◌, sym, ap}
-use Rattle.script.specs.Cursor.{left}
 use Rattle.script.specs.Readings.{given}
 use Rattle.script.proofs.Readers.{value_taken, value_none}
 use Rattle.script.proofs.words.Words.number.Goals as goal
@@ -15,4 +14,4 @@ returns-in_err-spelled g c =
 pub returns : goal.returns
 returns g c =
     let some = value_taken (2 ^ 32) _ _ _ _ c.in_ok-next.ensures.steps c.in_ok-spelled.ensures.is_the_number in
-    record { reads_a_number = rw some (c.try_from.result, c.try_from.ensures, ap (λ o. given o (left c.next.new.self)) (sym c.ok.ensures.value)) }
+    record { reads_a_number = rw some (c.try_from.result, c.try_from.ensures, ap (λ o. given o c.next.new.self) (sym c.ok.ensures.value)) }
