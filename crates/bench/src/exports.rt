@@ -2,24 +2,25 @@ ghost use Rattle.std.specs.Prelude.{◌≤◌};
 
 use crate::work::Map;
 use keys::Word;
-use pool::{Book, Node, open};
+use pool::{Book, MOST_NODES, Node, open};
 use records::Lamp;
 use std::mem::size_of;
 
-const MOST_NODES: usize = 4095;
+// An odd number: a map of k keys has 2 k - 1 nodes.
+const ROOM: usize = MOST_NODES as usize - 1;
 
 // The nodes to open for a map of so many keys: just enough and one more, so that a small map has a small pool.
 fn nodes_for(keys: usize) -> usize
     ensures within_the_pool { result ≤ 4095 }
 {
-    if keys < 2048 { 2 * keys } else { MOST_NODES }
+    keys.saturating_mul(2).min(ROOM)
 }
 
 // Builds the map once, and then does a round of work on it `rounds` times; each takes the checksum so far.
 fn on_one_map<F: Fn(&mut Map<'_>, u32) -> u32>(numbers: &[u32], rounds: u32, work: F) -> u32
     requires always { F.IsAlwaysCallable work }
 {
-    let mut pool = [Node::Free { next: 0 }; MOST_NODES];
+    let mut pool = [Node::Free { next: 0 }; ROOM];
     let nodes = &mut pool[..nodes_for(numbers.len())];
     let Ok(book) = open(nodes) else { return 0 };
     let mut map = Map::new(nodes, book);
@@ -41,7 +42,7 @@ fn on_each_map<F: Fn(&mut Map<'_>, &[u32], u32) -> u32>(
     requires always { F.IsAlwaysCallable work }
 {
     // As above; a helper that lends the nodes to a closure was tried, and no closure that calls a closure in it was proved.
-    let mut pool = [Node::Free { next: 0 }; MOST_NODES];
+    let mut pool = [Node::Free { next: 0 }; ROOM];
     let nodes = &mut pool[..nodes_for(size)];
     let mut sum: u32 = 0;
     for _ in 0..rounds {

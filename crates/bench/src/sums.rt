@@ -1,10 +1,4 @@
-use keys::Word;
 use records::{Hours, Lamp, Pair, Setting, Tags};
-
-/// The key of a number.
-pub fn word_of(number: u32) -> Word {
-    Word { light: number }
-}
 
 /// The record that is told at the key of a number: one that differs from key to key in every field.
 pub fn lamp_of(number: u32) -> Lamp {
@@ -28,8 +22,8 @@ pub fn add_lamp(sum: u32, lamp: Lamp) -> u32 {
     let setting = lamp.second.second;
     sum.wrapping_mul(31)
         .wrapping_add(lamp.first.count)
-        .wrapping_add(lamp.second.first.bits as u32)
+        .wrapping_add(u32::from(lamp.second.first.bits))
         .wrapping_add(setting.stamp)
-        .wrapping_add(setting.source as u32)
-        .wrapping_add(setting.word as u32)
+        .wrapping_add(u32::from(setting.source))
+        .wrapping_add(u32::from(setting.word))
 }

@@ -1,4 +1,4 @@
-use crate::sums::{add_lamp, lamp_of, word_of};
+use crate::sums::{add_lamp, lamp_of};
 use keys::Word;
 use maps::{look, next, put, remove};
 use pool::{Book, Node, WalkRefusal};
@@ -22,8 +22,8 @@ impl<'a> Map<'a> {
     /// Puts every key with its record, and answers how often that was done.
     pub fn put_all(&mut self, numbers: &[u32]) -> u32 {
         let mut done: u32 = 0;
-        for number in numbers {
-            let (key, told) = (word_of(*number), lamp_of(*number));
+        for &light in numbers {
+            let (key, told) = (Word { light }, lamp_of(light));
             if put(self.nodes, &mut self.book, SHELF, key, told).is_ok() {
                 done = done.wrapping_add(1);
             }
@@ -73,8 +73,8 @@ fn add_each<F: FnMut(Word) -> Result<Option<Lamp>, WalkRefusal>>(
     requires always { F.IsAlwaysCallable held }
 {
     let mut sum = before;
-    for number in numbers {
-        if let Ok(Some(lamp)) = held(word_of(*number)) {
+    for &light in numbers {
+        if let Ok(Some(lamp)) = held(Word { light }) {
             sum = add_lamp(sum, lamp);
         }
     }

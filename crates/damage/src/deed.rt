@@ -4,6 +4,7 @@ use runs::Call;
 use std::fmt;
 
 /// What is tried on each pool.
+// An enum, and no table of closures: each deed has a name to print, and a table would have to hand out function values.
 #[derive(Clone, Copy)]
 pub(crate) enum Deed {
     PutOld,

@@ -1,5 +1,6 @@
+use crate::stock::Pool;
 use keys::Word;
-use pool::{Account, Book, Node, SHELVES, Shelf};
+use pool::{Account, Book, Node, Shelf};
 use records::Mark;
 
 /// One change to a pool in good order.
@@ -12,24 +13,25 @@ pub(crate) enum Harm {
 }
 
 impl Harm {
-    /// Does the harm to the nodes and the book.
-    pub(crate) fn inflict(self, nodes: &mut [Node<Word, Mark>], book: &mut Book) {
+    /// Does the harm to the nodes or the book.
+    pub(crate) fn inflict(self, pool: &mut Pool) {
         match self {
             Harm::Nothing => {}
             Harm::Node { at, node } => {
-                if let Some(place) = nodes.get_mut(at as usize) {
+                if let Some(place) = pool.nodes.get_mut(usize::from(at)) {
                     *place = node;
                 }
             }
             Harm::Row { shelf, row } => {
-                // Not by `get_mut`: tried, and after it the book is not known to have eight rows.
-                if (shelf as usize) < SHELVES {
-                    book.shelves[shelf as usize] = row;
+                let mut shelves = pool.book.shelves;
+                if let Some(place) = shelves.get_mut(usize::from(shelf)) {
+                    *place = row;
                 }
+                pool.book = Book::from_parts(pool.book.account, shelves);
             }
             Harm::Account { head, free } => {
-                if let Some(account) = Account::from_parts(book.account.capacity, head, free) {
-                    book.account = account;
+                if let Some(account) = Account::from_parts(pool.book.account.capacity, head, free) {
+                    pool.book.account = account;
                 }
             }
         }

@@ -1,15 +1,14 @@
 use crate::harm::Harm;
+use crate::stock::NODES;
 use keys::Word;
-use pool::{Book, Node, Shelf};
+use pool::{Book, MOST_NODES, Node, Shelf};
 use records::Mark;
 use std::alloc::Global;
-
-const NODES: u16 = 16;
 
 /// A node that no tree of the stocked pool uses.
 const UNUSED: u16 = 14;
 
-const FAR: u16 = 65535;
+const FAR: u16 = u16::MAX;
 
 const PLACES: [u8; 7] = [0, 28, 30, 31, 32, 64, 255];
 
@@ -97,7 +96,7 @@ fn roots(harms: &mut Vec<Harm>, shelf: u8, sound: Shelf) -> anyhow::Result<()> {
 
 /// Rows with a wrong number of keys.
 fn key_counts(harms: &mut Vec<Harm>, shelf: u8, sound: Shelf) -> anyhow::Result<()> {
-    for keys in [0, 4096, FAR] {
+    for keys in [0, MOST_NODES, FAR] {
         row(harms, shelf, sound.root, keys)?;
     }
     Ok(())

@@ -2,8 +2,7 @@ use crate::deed::Deed;
 use crate::harm::Harm;
 use crate::listing::every_harm;
 use crate::scene::Scene;
-use crate::stock::stocked;
-use pool::Node;
+use crate::stock::{NODES, Pool};
 use std::io;
 
 const DEEDS: [Deed; 9] = [
@@ -26,26 +25,27 @@ const MISSING: [u8; 2] = [8, 255];
 /// Stocks a pool, and tries every call on it: sound and harmed, on shelves that there are and are not, after other
 /// calls, and with a slice of another length.
 pub(crate) fn run(rt: &HostRuntime) -> anyhow::Result<()> {
-    let mut nodes = [Node::Free { next: 0 }; 16];
-    let Some(book) = stocked(&mut nodes) else {
+    let Some(pool) = Pool::stocked() else {
         rt.println("the pool could not be stocked")?;
         return Ok(());
     };
-    let harms = every_harm(rt.alloc(), &book)?;
+    let harms = every_harm(rt.alloc(), &pool.book)?;
     let every = harms.as_slice();
     println!(rt; "{} harms", every.len())?;
     let none = [Harm::Nothing];
-    let sound = Scene::new(&nodes, book);
+    let sound = Scene::new(pool, &[]);
     table(rt, "sound", &sound, &none, &THERE)?;
     table(rt, "sound, no such shelf", &sound, &none, &MISSING)?;
     table(rt, "harmed", &sound, every, &THERE)?;
     table(rt, "harmed, no such shelf", &sound, every, &MISSING)?;
-    let changed = sound.after(&[Deed::PutNew, Deed::Remove]);
+    let changed = Scene::new(pool, &[Deed::PutNew, Deed::Remove]);
     table(rt, "harmed, after put and remove", &changed, every, &THERE)?;
-    let emptied = sound.after(&[Deed::Clear, Deed::PutNew]);
+    let emptied = Scene::new(pool, &[Deed::Clear, Deed::PutNew]);
     table(rt, "harmed, after clear and put", &emptied, every, &THERE)?;
-    table(rt, "one node less", &sound.of_length(15), every, &THERE)?;
-    table(rt, "one node more", &sound.of_length(17), every, &THERE)?;
+    let shorter = Scene::new(pool.of_length(NODES - 1), &[]);
+    table(rt, "one node less", &shorter, every, &THERE)?;
+    let longer = Scene::new(pool.of_length(NODES + 1), &[]);
+    table(rt, "one node more", &longer, every, &THERE)?;
     rt.println("done")?;
     Ok(())
 }
