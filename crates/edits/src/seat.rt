@@ -36,8 +36,7 @@ pub fn seek<K: KeyKind, V: Copy>(
     let mut at = top;
     let mut least: u16 = 0;
     loop {
-        let step = step_at(nodes, at, least, Reach::OwnPlaces)?;
-        match step {
+        match step_at(nodes, at, least, Reach::OwnPlaces)? {
             Step::Leaf {
                 key: own,
                 record: held,
