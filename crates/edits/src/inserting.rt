@@ -1,5 +1,6 @@
-// A record told at a key of one map.
-ghost use Rattle.std.specs.Prelude.{◌≡◌, ◌<◌, length, Some, None, Err, Option, MatchResult, slice_set};
+// A record told at a key of one map. The two are two parameters: callers have them apart, the walk wants the key alone, and
+// a leaf, where they end, is itself what would hold both.
+ghost use Rattle.std.specs.Prelude.{◌≡◌, ◌<◌, ◌≤◌, length, Some, None, Err, Option, MatchResult, slice_set};
 ghost use Rattle.pool.specs.declared.node.Node.TheVariants.{Leaf};
 ghost use Rattle.edits.specs.Inserted.{Inserts, InsertsAt};
 ghost use Rattle.edits.specs.Writes.{Forked, NotTwoFree, TookTwo};
@@ -20,9 +21,10 @@ const NODES_OF_A_FIRST_KEY: u16 = 1;
 // a map that has keys takes a leaf and a branch over it
 const NODES_OF_A_FURTHER_KEY: u16 = 2;
 
-// Writes to a leaf the record that it holds, joined with what is told.
-fn join_leaf<K: Copy, V: Joining>(nodes: &mut [Node<K, V>], at: u16, own: K, held: V, told: V)
+/// Writes to a leaf the record that it holds, joined with what is told; past the end it writes nothing.
+pub fn join_leaf<K: Copy, V: Joining>(nodes: &mut [Node<K, V>], at: u16, own: K, held: V, told: V)
     ensures joined_there { at < length nodes.old → nodes.new ≡ slice_set nodes.old at (Leaf own (V.Joining.joined held told)) }
+    ensures past_end_unchanged { length nodes.old ≤ at → nodes.new ≡ nodes.old }
 {
     write_node(
         nodes,
@@ -114,8 +116,7 @@ fn grow<K: KeyKind, V: Joining>(
     ensures adds_one_update { Inserts (K.KeyKind) V.Joining.joined key told nodes.old nodes.new account (Some top) result }
     ensures too_few_changes_nothing { result ≡ Err TooFewNodes → nodes.new ≡ nodes.old }
 {
-    let seat = seek(nodes, top, key)?;
-    match seat {
+    match seek(nodes, top, key)? {
         Seat::Taken { at, own, held } => {
             join_leaf(nodes, at, own, held, told);
             Ok((top, account))

@@ -42,25 +42,19 @@ fn shrink<K: KeyKind, V: Copy>(
             account,
         });
     }
-    match landing.parent {
-        None => {
-            let after = release(nodes, account, landing.at)?;
-            Ok(Removal {
-                held: Some(landing.held),
-                root: None,
-                account: after,
-            })
-        }
+    let (root, after) = match landing.parent {
+        None => (None, release(nodes, account, landing.at)?),
         Some(parent) => {
             let content = node_at(nodes, parent.sibling)?;
             let after = close_up(nodes, account, parent, content, landing.at)?;
-            Ok(Removal {
-                held: Some(landing.held),
-                root: Some(top),
-                account: after,
-            })
+            (Some(top), after)
         }
-    }
+    };
+    Ok(Removal {
+        held: Some(landing.held),
+        root,
+        account: after,
+    })
 }
 
 /// Takes a key from the map at `root`, and answers the record that it had. The tree's first node stays where it

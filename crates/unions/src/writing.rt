@@ -5,6 +5,7 @@ ghost use Rattle.unions.specs.Steps.{Leveled, Parted, Sided, Swapped, Unbranched
 
 use crate::job::Job;
 use crate::step::Step;
+use edits::inner::join_leaf;
 use keys::KeyKind;
 use pool::inner::{release, take_free, write_node};
 use pool::{Account, Node, OutOfOrder};
@@ -38,21 +39,20 @@ pub fn part<K: KeyKind, V: Copy>(
 pub fn side_job<K: KeyKind, V: Copy>(node: Node<K, V>, key: K, job: Job) -> Result<Job, OutOfOrder>
     ensures side_by_bit { MatchResult result (λ next. Sided (K.KeyKind) node key job next) (λ _. Unbranched node) }
 {
-    match node {
-        Node::Branch {
-            place,
-            zero,
-            one,
-            ..
-        } => {
-            let sides = Sides::by(key.bit_at(place), zero, one);
-            Ok(Job {
-                into: sides.near,
-                from: job.from,
-            })
-        }
-        _ => Err(OutOfOrder),
-    }
+    let Node::Branch {
+        place,
+        zero,
+        one,
+        ..
+    } = node
+    else {
+        return Err(OutOfOrder);
+    };
+    let sides = Sides::by(key.bit_at(place), zero, one);
+    Ok(Job {
+        into: sides.near,
+        ..job
+    })
 }
 
 /// The branch `over` of the job's second tree takes the first's node; what stood there, whose key is `key`, takes the
@@ -66,28 +66,27 @@ pub fn swap_over<K: KeyKind, V: Copy>(
 ) -> Result<Job, OutOfOrder>
     ensures swapped { MatchResult result (λ next. Swapped (K.KeyKind) nodes.old nodes.new job old over key next) (λ _. Unbranched over) }
 {
-    match over {
-        Node::Branch {
-            place,
-            key: own,
-            zero,
-            one,
-        } => {
-            let bit = key.bit_at(place);
-            let sides = Sides::by(bit, zero, one);
-            let sides_now = Sides {
-                near: job.from,
-                far: sides.far,
-            };
-            write_node(nodes, job.from, old);
-            write_node(nodes, job.into, branch_over(place, own, bit, sides_now));
-            Ok(Job {
-                into: job.from,
-                from: sides.near,
-            })
-        }
-        _ => Err(OutOfOrder),
-    }
+    let Node::Branch {
+        place,
+        key: own,
+        zero,
+        one,
+    } = over
+    else {
+        return Err(OutOfOrder);
+    };
+    let bit = key.bit_at(place);
+    let sides = Sides::by(bit, zero, one);
+    let sides_now = Sides {
+        near: job.from,
+        far: sides.far,
+    };
+    write_node(nodes, job.from, old);
+    write_node(nodes, job.into, branch_over(place, own, bit, sides_now));
+    Ok(Job {
+        into: job.from,
+        from: sides.near,
+    })
 }
 
 /// Two nodes at one place: of two branches the second is given back and their sides are left to do; two leaves, which
@@ -122,15 +121,7 @@ pub fn level<K: KeyKind, V: Joining>(
             Ok((after, Step::Both(on_zero, on_one)))
         }
         (Node::Leaf { key, record }, Node::Leaf { record: other, .. }) => {
-            let joined = record.join(other);
-            write_node(
-                nodes,
-                job.into,
-                Node::Leaf {
-                    key,
-                    record: joined,
-                },
-            );
+            join_leaf(nodes, job.into, key, record, other);
             let after = release(nodes, account, job.from)?;
             Ok((after, Step::Done))
         }

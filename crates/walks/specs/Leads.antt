@@ -1,5 +1,5 @@
 -- Where walks down a tree lead: what an answer must be for every tree in order at an index.
-use Rattle.std.specs.Prelude.{◌≡◌, ℕ, ◌≤◌, List, Some, Ok, Option, Result}
+use Rattle.std.specs.Prelude.{◌≡◌, ℕ, ◌<◌, ◌≤◌, List, Some, Ok, Option, Result}
 use Rattle.keys.specs.Model.{KeyModel}
 use Rattle.trees.specs.Tree.{Tree, root, entries, first_entry}
 use Rattle.trees.specs.Order.{Ordered}
@@ -16,6 +16,11 @@ module _ {K V : Type 0} (ns : List (Node K V)) where
   abbrev pub Stepped : ℕ → ℕ → Step K V → Type 0
   Stepped least at (step.Leaf k v) = At ns at (node.Leaf k v)
   Stepped least at (step.Branch p k zero one) = At ns at (node.Branch p k zero one) × (least ≤ p)
+
+-- a step that is a leaf, or a branch at a place that the kind has
+abbrev pub Within : {K V : Type 0} → KeyModel K → Step K V → Type 0
+Within κ (step.Leaf k v) = Unit {0}
+Within κ (step.Branch p k zero one) = p < κ.PLACES
 
 module _ {K V : Type 0} (κ : KeyModel K) (ns : List (Node K V)) where
   -- t stands in order at the node `at`, with no place before `least`

@@ -39,8 +39,7 @@ pub(crate) fn descend<K: KeyKind, V: Copy, F: Fn(u8) -> bool>(
     let mut least: u16 = 0;
     let mut parent = None;
     loop {
-        let step = step_at(nodes, at, least, reach)?;
-        match step {
+        match step_at(nodes, at, least, reach)? {
             Step::Leaf {
                 key: own,
                 record: held,

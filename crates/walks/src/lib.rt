@@ -1,4 +1,7 @@
 //! Questions to one tree: which record a key has, and which entry comes next.
+//!
+//! That a map stands at a root (`Rooted`) is a premise in each clause, and no invariant of a type: a lent pool may be
+//! damaged, and no call may ask that it is not.
 
 #![tactic(auto)]
 

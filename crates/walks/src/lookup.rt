@@ -20,9 +20,5 @@ pub fn look<K: KeyKind, V: Copy>(
         return Ok(None);
     };
     let landing = leaf_towards(nodes, top, Reach::AnyPlace, key)?;
-    if same_key(landing.own, key) {
-        Ok(Some(landing.held))
-    } else {
-        Ok(None)
-    }
+    Ok(same_key(landing.own, key).then_some(landing.held))
 }

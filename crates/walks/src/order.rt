@@ -33,7 +33,7 @@ fn first_of<K: KeyKind, V: Copy>(
 }
 
 // Where a walk goes on below a branch whose prefix the bound shares, and where the entries begin that come after
-// whatever it may find there.
+// whatever it may find there. Two pairs side by side: `Sides::by` would name one of each, and the bit decide once more.
 fn go_along(to_one: bool, zero: u16, one: u16, later: Option<u16>) -> (u16, Option<u16>)
     ensures side_one_is_later { result ≡ cond to_one (one, later) (zero, Some one) }
 {
@@ -57,8 +57,7 @@ fn entry_after<K: KeyKind, V: Copy>(
     // side 1 of the last branch at which the bound went to side 0: all of it comes after the bound
     let mut later: Option<u16> = None;
     loop {
-        let step = step_at(nodes, at, least, Reach::AnyPlace)?;
-        match step {
+        match step_at(nodes, at, least, Reach::AnyPlace)? {
             Step::Leaf { key, record } => {
                 if comes_before(bound, key) {
                     return Ok(Some((key, record)));

@@ -1,5 +1,6 @@
-ghost use Rattle.std.specs.Result.{MatchResult};
-ghost use Rattle.walks.specs.Leads.{NoneGrows, Stepped};
+ghost use Rattle.std.specs.Prelude.{◌≡◌, MatchResult};
+ghost use Rattle.walks.specs.Leads.{NoneGrows, Stepped, Within};
+ghost use Rattle.walks.specs.declared.step.Reach.TheVariants.{OwnPlaces};
 
 use keys::KeyKind;
 use pool::inner::node_at;
@@ -33,6 +34,8 @@ pub enum Reach {
 
 /// The node at which a walk stands. Places must grow on the way down, so that every walk ends, on any slice: a branch at
 /// a place before `least` is refused, and one that is out of reach.
+// The walks keep `at` and `least` as two variables: a struct of them would be made anew at each branch, by the same two
+// lines, and taken apart for the answer, which names `at` alone.
 pub fn step_at<K: KeyKind, V: Copy>(
     nodes: &[Node<K, V>],
     at: u16,
@@ -40,29 +43,25 @@ pub fn step_at<K: KeyKind, V: Copy>(
     reach: Reach,
 ) -> Result<Step<K, V>, OutOfOrder>
     ensures node_or_no_tree { MatchResult result (Stepped nodes.now least at) (λ _. NoneGrows (K.KeyKind) nodes.now least at) }
+    ensures own_places { reach ≡ OwnPlaces → MatchResult result (Within (K.KeyKind)) (λ _. Unit {0}) }
 {
-    let node = node_at(nodes, at)?;
-    match node {
-        Node::Free { .. } => Err(OutOfOrder),
+    match node_at(nodes, at)? {
         Node::Leaf { key, record } => Ok(Step::Leaf { key, record }),
+        Node::Branch { place, .. } if (place as u16) < least => Err(OutOfOrder),
+        Node::Branch { place, .. } if reach == Reach::OwnPlaces && place >= K::PLACES => {
+            Err(OutOfOrder)
+        }
         Node::Branch {
             place,
-            key,
+            key: prefix,
             zero,
             one,
-        } => {
-            if (place as u16) < least {
-                return Err(OutOfOrder);
-            }
-            if matches!(reach, Reach::OwnPlaces) && place >= K::PLACES {
-                return Err(OutOfOrder);
-            }
-            Ok(Step::Branch {
-                place,
-                prefix: key,
-                zero,
-                one,
-            })
-        }
+        } => Ok(Step::Branch {
+            place,
+            prefix,
+            zero,
+            one,
+        }),
+        Node::Free { .. } => Err(OutOfOrder),
     }
 }
