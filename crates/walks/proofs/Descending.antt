@@ -1,5 +1,7 @@
 -- The walk to the leaf to which bits lead, and what that leaf says of a key.
 use Rattle.std.proofs.Common.{◌≡◌, ℕ, ◌+◌, Bool, true, false, cond, List, Some, None, Ok, Err, Option, Result, sym, refl, ap, ◌∙◌, subst, subst₂, MatchResult}
+use Rattle.std.specs.Prelude.{◌≢◌}
+use Rattle.std.specs.Bool.{then_some}
 use Rattle.keys.specs.Model.{KeyModel, KeyLaws, number}
 use Rattle.trees.specs.Tree.{Tree, leaf, branch, root, entries, entries_if_any, first_entry}
 use Rattle.trees.specs.Order.{Ordered}
@@ -92,3 +94,9 @@ module _ {K V : Type 0} (κ : KeyModel K) (x : K) where
   pub lands_miss : (d : Landing K V) (map : Option (Tree K V)) → LandsIfAny κ x d map → (d.own ≡ x → ⊥) → lookup κ (entries_if_any map) x ≡ None
   lands_miss d None lands = absurd lands
   lands_miss d (Some t) lands = lands.miss
+
+  -- and so by any test that tells the two keys apart
+  pub lands_tested : (d : Landing K V) (map : Option (Tree K V)) → LandsIfAny κ x d map → (b : Bool) → (b ≡ true → d.own ≡ x) → (b ≡ false → d.own ≢ x)
+      → lookup κ (entries_if_any map) x ≡ then_some b d.held
+  lands_tested d map lands true same other = lands_hit d map lands (same refl)
+  lands_tested d map lands false same other = lands_miss d map lands (other refl)
