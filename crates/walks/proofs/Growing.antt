@@ -1,17 +1,25 @@
 -- What the node at an index says of any tree in order there.
-use Rattle.std.proofs.Common.{◌≡◌, ℕ, ◌+◌, List, Some, Option, sym, ap, subst, arith}
+use Rattle.std.proofs.Common.{◌≡◌, ℕ, ◌+◌, ◌<◌, ◌≤◌, List, length, Some, Option, sym, ap, subst, arith}
 use Rattle.keys.specs.Model.{KeyModel}
 use Rattle.trees.specs.Tree.{Tree, leaf, branch}
 use Rattle.trees.specs.Order.{Ordered}
 use Rattle.trees.proofs.Order.{ordered_lower}
+use Rattle.pool.specs.Slice.{At}
 use Rattle.pool.specs.Walks.{Rooted}
 use Rattle.pool.specs.declared.node.Node.{Node}
+use Rattle.pool.specs.declared.node.Node.TheVariants.{Free, Branch}
 use Rattle.pool.proofs.Standing
 use Rattle.walks.specs.declared.step.Step.{Step}
 use Rattle.walks.specs.declared.step.Step.TheVariants as step
-use Rattle.walks.specs.Leads.{Stepped, Grows}
+use Rattle.walks.specs.Leads.{Stepped, NoneGrows, Grows}
 
 module _ {K V : Type 0} (κ : KeyModel K) (ns : List (Node K V)) (least at : ℕ) where
+  pub none_past_end : length ns ≤ at → NoneGrows κ ns least at
+  none_past_end past t h = Standing.none_past_end ns at t h.stands h.rooted past
+
+  pub none_at_free : {n : ℕ} {x : Node K V} → At ns at x → x ≡ Free n → NoneGrows κ ns least at
+  none_at_free {n} a is t h = Standing.none_at_free ns at n (subst (At ns at) is a) t h.stands h.rooted
+
   -- at a leaf the tree is that leaf
   pub grown_leaf : (P : Tree K V → Type 0) {k : K} {v : V} {s : Step K V} → Stepped ns least at s → s ≡ step.Leaf k v → P (leaf at k v)
       → (t : Tree K V) → Grows κ ns least at t → P t
@@ -26,6 +34,12 @@ module _ {K V : Type 0} (κ : KeyModel K) (ns : List (Node K V)) (least at : ℕ
       (λ l r sl sr el er o.
       holds l r (record { stands = sl; rooted = el; ordered = o.4 }) (record { stands = sr; rooted = er; ordered = o.5 }) o)
       t h.stands h.rooted h.ordered
+
+  pub none_out_of_place : {p : ℕ} {k : K} {left right : ℕ} {x : Node K V} → At ns at x → x ≡ Branch p k left right
+      → (least ≤ p → p < κ.PLACES → ⊥) → NoneGrows κ ns least at
+  none_out_of_place {p} {k} {left} {right} a is out t h =
+      Standing.only_branch ns at (λ (t : Tree K V). Ordered κ least t → ⊥) p k left right (subst (At ns at) is a)
+      (λ l r sl sr el er o. out o.0 o.1) t h.stands h.rooted h.ordered
 
 module _ {K V : Type 0} (κ : KeyModel K) (ns : List (Node K V)) where
   -- a map with a root is a tree in order there
