@@ -3,7 +3,7 @@ ghost use Rattle.keys.specs.Cells.{words_same};
 ghost use Rattle.std.proofs.Common.{rules, arith};
 
 use crate::kind::KeyKind;
-use crate::numbers::{bits_write_their_number, number_bit};
+use crate::numbers::bits_write_their_number;
 use crate::values::Word;
 
 /// Words: code 1, 32 places, the number of a word is the light's own.
@@ -27,7 +27,12 @@ impl KeyKind for Word {
     ghost same_bits = { words_same };
 
     fn bit_at(self, place: u8) -> bool {
-        number_bit(u64::from(self.light), Self::PLACES, place)
+        // Not by `number_bit`: with it a put took 5 percent longer.
+        if place < Self::PLACES {
+            (self.light >> (31 - place as u32)) % 2 == 1
+        } else {
+            false
+        }
     }
 
     fn from_number(n: u64) -> Option<Word> {
