@@ -14,6 +14,7 @@ const ROOM: usize = NODES as usize + 1;
 #[derive(Clone, Copy, PartialEq)]
 pub(crate) struct Pool {
     pub(crate) nodes: [Node<Word, Mark>; ROOM],
+    // not the nodes' own length: the calls may be given a slice of another one
     length: usize,
     pub(crate) book: Book,
 }

@@ -1,6 +1,7 @@
 use causes::Cause;
 
 /// What a call that was carried out answers.
+// Apart from the script's answers, as the calls are from its calls: that language rests on no pool.
 #[derive(Clone, Copy, PartialEq, Eq, Debug)]
 pub enum Answer<K, V> {
     /// There is nothing to tell.

@@ -52,6 +52,7 @@ fn unite_trees<K: KeyKind, V: Joining>(
 
 /// Unites the map at `other` into the map at `root`: records of keys that both have are joined. Answers where the
 /// tree begins now, and the account. Where both hold something, one free node is wanted.
+// A pair, as an insertion answers, which the caller takes apart at once.
 pub fn unite<K: KeyKind, V: Joining>(
     nodes: &mut [Node<K, V>],
     account: Account,
