@@ -62,6 +62,7 @@ impl<T: Copy> Stack<T> {
     pub fn pop(&mut self) -> Option<T>
         ensures from_the_top { self.old ≡ option_to_list result ++ self.new }
         ensures none_of_an_empty_one { result ≡ None → self.new ≡ [] }
+        ensures never_over_full { length self.old ≤ 64 }
     {
         tops_of_stacks::<T>();
         self.height = self.height.checked_sub(1)?;
