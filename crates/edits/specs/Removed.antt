@@ -1,5 +1,5 @@
 -- What a removal from one map promises.
-use Rattle.std.specs.Prelude.{◌≡◌, ℕ, cond, List, None, Option, Result, MatchResult}
+use Rattle.std.specs.Prelude.{◌≡◌, ℕ, cond, List, None, Option, Result, MatchResult, IfSome}
 use Rattle.keys.specs.Model.{KeyModel}
 use Rattle.trees.specs.Tree.{Tree, entries_if_any}
 use Rattle.trees.specs.Find.{same_key, lookup}
@@ -7,6 +7,7 @@ use Rattle.pool.specs.declared.node.Node.{Node}
 use Rattle.pool.specs.declared.account.Account.{Account}
 use Rattle.pool.specs.declared.outoforder.OutOfOrder.{OutOfOrder}
 use Rattle.pool.specs.Walks.{Rooted, Beside, Left}
+use Rattle.walks.specs.Ways.{FoundByOwnWay}
 use Rattle.edits.specs.declared.removal.Removal.{Removal}
 use Rattle.edits.specs.Owned.{owned}
 
@@ -25,3 +26,7 @@ module _ {K V : Type 0} (κ : KeyModel K) (x : K) where
   abbrev pub Removes : List (Node K V) → List (Node K V) → Account → Option ℕ → Result (Removal V) OutOfOrder → Type 0
   Removes ns ns' account root r = (map : Option (Tree K V)) (chain : List ℕ) → Rooted κ ns root map → Beside ns account map chain
       → Removed ns ns' account map chain r
+
+  -- what a removal takes it has found by a walk that passes branches at places of the kind alone, in any slice of nodes
+  abbrev pub TakesByOwnWay : List (Node K V) → Option ℕ → Result (Removal V) OutOfOrder → Type 0
+  TakesByOwnWay ns root r = MatchResult r (λ a. IfSome a.held (FoundByOwnWay κ ns root x)) (λ _. Unit {0})

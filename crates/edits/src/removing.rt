@@ -1,6 +1,6 @@
 // A key taken from one map.
 ghost use Rattle.std.specs.Prelude.{◌<◌, Some, None, Option, MatchResult};
-ghost use Rattle.edits.specs.Removed.{Removes};
+ghost use Rattle.edits.specs.Removed.{Removes, TakesByOwnWay};
 ghost use Rattle.edits.specs.Writes.{ClosedUp, NoRoomForTwo};
 
 use crate::removal::Removal;
@@ -33,6 +33,7 @@ fn shrink<K: KeyKind, V: Copy>(
     key: K,
 ) -> Result<Removal<V>, OutOfOrder>
     ensures drops_one_key { Removes (K.KeyKind) key nodes.old nodes.new account (Some top) result }
+    ensures by_own_places { TakesByOwnWay (K.KeyKind) key nodes.old (Some top) result }
 {
     let landing = leaf_towards(nodes, top, Reach::OwnPlaces, key)?;
     if !same_key(landing.own, key) {
@@ -66,6 +67,7 @@ pub fn remove<K: KeyKind, V: Copy>(
     key: K,
 ) -> Result<Removal<V>, OutOfOrder>
     ensures drops_one_key { Removes (K.KeyKind) key nodes.old nodes.new account root result }
+    ensures by_own_places { TakesByOwnWay (K.KeyKind) key nodes.old root result }
 {
     match root {
         None => Ok(Removal {

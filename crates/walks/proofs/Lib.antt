@@ -1,3 +1,4 @@
 pub mod Growing
 pub mod Descending
 pub mod Following
+pub mod Passing

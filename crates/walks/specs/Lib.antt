@@ -1,3 +1,4 @@
 pub mod Leads
 pub mod Landings
 pub mod Turns
+pub mod Ways

@@ -3,6 +3,8 @@ ghost use Rattle.trees.specs.Tree.{Tree};
 ghost use Rattle.pool.specs.Walks.{Rooted};
 ghost use Rattle.walks.specs.Leads.{Grows};
 ghost use Rattle.walks.specs.Landings.{landing, LandsIfAny};
+ghost use Rattle.walks.specs.Ways.{LandsByOwnWay};
+ghost use Rattle.walks.specs.declared.step.Reach.TheVariants.{OwnPlaces};
 
 use crate::sides::Sides;
 use crate::step::{Reach, Step, step_at};
@@ -34,6 +36,7 @@ pub(crate) fn descend<K: KeyKind, V: Copy, F: Fn(u8) -> bool>(
 ) -> Result<Landing<K, V>, OutOfOrder>
     requires names_sides { F.IsAlwaysCallable bit }
     ensures where_the_bits_lead { (goes : ℕ → Bool) → ((p : ℕ) (b : Bool) → F.post bit p b → b ≡ goes p) → (t : Tree K V) → Grows (K.KeyKind) nodes.now 0 top t → MatchResult result (λ d. d ≡ landing goes None t) (λ _. ⊥) }
+    ensures by_own_places { reach ≡ OwnPlaces → MatchResult result (LandsByOwnWay (K.KeyKind) nodes.now top) (λ _. Unit {0}) }
 {
     let mut at = top;
     let mut least: u16 = 0;
@@ -75,6 +78,7 @@ pub fn leaf_towards<K: KeyKind, V: Copy>(
     key: K,
 ) -> Result<Landing<K, V>, OutOfOrder>
     ensures only_leaf_for_the_key { (map : Option (Tree K V)) → Rooted (K.KeyKind) nodes.now (Some top) map → MatchResult result (λ d. LandsIfAny (K.KeyKind) key d map) (λ _. ⊥) }
+    ensures by_own_places { reach ≡ OwnPlaces → MatchResult result (LandsByOwnWay (K.KeyKind) nodes.now top) (λ _. Unit {0}) }
 {
     descend(nodes, top, reach, |place| key.bit_at(place))
 }

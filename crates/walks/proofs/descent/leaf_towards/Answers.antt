@@ -9,6 +9,7 @@ pub returns : goal.returns
 returns g c =
     let law = key_laws g.K.KeyKind g.met.K.KeyKind.places_bounded.1 g.met.K.KeyKind.same_bits in
     record {
+      by_own_places = c.descend.ensures.by_own_places;
       only_leaf_for_the_key = rooted_grows g.K.KeyKind c.args.nodes.now
           (λ map. MatchResult c.descend.result (λ d. LandsIfAny g.K.KeyKind c.args.key d map) (λ _. ⊥)) refl
           (λ t h. landed_lands g.K.KeyKind c.args.key law t h.ordered c.descend.result
