@@ -9,7 +9,7 @@ pub(crate) fn spelled(word: &[u8]) -> Option<u32>
     let mut number: u32 = 0;
     for byte in word {
         let digit = char::from(*byte).to_digit(10)?;
-        // One test for the digit's place and the digit: `checked_mul` and `checked_add` are two, and took longer.
+        // One test whether the number still fits: `checked_mul` and `checked_add` are two, and took longer.
         number = u32::try_from(u64::from(number) * 10 + u64::from(digit)).ok()?;
     }
     Some(number)
